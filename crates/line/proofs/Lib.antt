@@ -1,0 +1,4 @@
+mod Parts
+mod Shares
+mod Frames
+pub mod Walk

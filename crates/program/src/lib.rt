@@ -1,0 +1,4 @@
+// Programs in numbers, and the targets that they say.
+mod target;
+
+pub use target::Target;
