@@ -51,6 +51,10 @@ module _ (a c l v : ℕ) (p : 1 ≤ a) where
   unfolding next-speed
   between h i = let k = cut a l (v + a) (min c (v + a)) p (omega arith) i in omega (arith, k .0, k .1)
 
+  pub no-more : next-speed a c l v ≤ v + a
+  unfolding next-speed
+  no-more = omega (arith, at-most a l (v + a))
+
   pub next : stopping a v ≤ l → Next a c l v (next-speed a c l v)
   unfolding next-speed
   next h = record {

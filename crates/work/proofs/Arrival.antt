@@ -44,14 +44,14 @@ module _ (m : Machine) (q : Panel) (ts : List Target) (w v : Motion) (t : Target
   nearer-going : Goes-on n w v → w .done + n < long (w .from) (t .to) → 1 ≤ n → Nearer m q ts w v
   unfolding to-go
   nearer-going g h k =
-    let d : todo ts v ≡ t ∷ us = ap (λ (b : ℕ). drop b ts) (g .behind) ∙ e in
-    record { caps = rw d c; less = rw (d, e, g .from, g .done) (omega arith) }
+      let d : todo ts v ≡ t ∷ us = ap (λ (b : ℕ). drop b ts) (g .behind) ∙ e in
+      record { caps = rw d c; less = rw (d, e, g .from, g .done) (omega arith) }
 
   nearer-ended : (a : ℕ) → Ends-line a n (t .to) w v → w .done < max 1 (long (w .from) (t .to)) → Nearer m q ts w v
   unfolding to-go Caps
   nearer-ended a g k =
-    let d : todo ts v ≡ us = ap (λ (b : ℕ). drop b ts) (g .behind) ∙ next-todo ts (w .behind) t us e in
-    record { caps = rw d (c .1); less = rw (d, e, g .from, g .done) (omega arith) }
+      let d : todo ts v ≡ us = ap (λ (b : ℕ). drop b ts) (g .behind) ∙ next-todo ts (w .behind) t us e in
+      record { caps = rw d (c .1); less = rw (d, e, g .from, g .done) (omega arith) }
 
 module _ (m : Machine) (p : Place) (ts : List Target) (fit : 1 ≤ m .change) where
   nearer : (q : Panel) (w : Motion) → Can-stop (m .change) w (todo ts w) → Caps m q (todo ts w) → Nearer m q ts w (tick m q ts w)
@@ -61,9 +61,9 @@ module _ (m : Machine) (p : Place) (ts : List Target) (fit : 1 ≤ m .change) wh
       by : (xs : List Target) → todo ts w ≡ xs → Can-stop (m .change) w xs → Caps m q xs → Nearer m q ts w (tick m q ts w)
       by [] e s c = rw (none m q ts w e) (record { caps = rw e tt; less = rw e (omega arith) })
       by (t ∷ us) e s c =
-        ⊎-elim
-        (λ g. nearer-going m q ts w (tick m q ts w) t us _ e c (g .0) (g .1) (next-of m q ts w fit t us e s .moves (c .0) (omega (arith, g .1))))
-        (λ g. nearer-ended m q ts w (tick m q ts w) t us _ e c (m .change) g (s .1)) (ends-or-goes m q ts w fit t us e s)
+          ⊎-elim
+          (λ g. nearer-going m q ts w (tick m q ts w) t us _ e c (g .0) (g .1) (next-of m q ts w fit t us e s .moves (c .0) (omega (arith, g .1))))
+          (λ g. nearer-ended m q ts w (tick m q ts w) t us _ e c (m .change) g (s .1)) (ends-or-goes m q ts w fit t us e s)
 
   at-last : (w : Motion) → Safe m p ts w → to-go (w .from) (w .done) (todo ts w) ≤ 0 → Arrived p ts w
   unfolding to-go stands
@@ -71,15 +71,15 @@ module _ (m : Machine) (p : Place) (ts : List Target) (fit : 1 ≤ m .change) wh
     where
       by : (xs : List Target) → todo ts w ≡ xs → Can-stop (m .change) w xs → to-go (w .from) (w .done) xs ≤ 0 → Arrived p ts w
       by [] e c le =
-        let b : w .behind ≡ length ts = omega (arith, none-left ts (w .behind) e, s .few) in
-        record { all = b; there = begins w (todo ts w) (c .0) ∙ s .began ∙ ap (start-of p ts) b; still = c .1 }
+          let b : w .behind ≡ length ts = omega (arith, none-left ts (w .behind) e, s .few) in
+          record { all = b; there = begins w (todo ts w) (c .0) ∙ s .began ∙ ap (start-of p ts) b; still = c .1 }
       by (t ∷ us) e c le = absurd (omega arith)
 
   pub arrives : (n : ℕ) (w : Work) → Safe m p ts (w .motion) → Caps m (w .panel) (todo ts (w .motion))
-    → to-go (w .motion .from) (w .motion .done) (todo ts (w .motion)) ≤ n → Arrived p ts (row m ts (ticks n) w .motion)
+      → to-go (w .motion .from) (w .motion .done) (todo ts (w .motion)) ≤ n → Arrived p ts (row m ts (ticks n) w .motion)
   unfolding row ticks
   arrives zero w s c le = at-last (w .motion) s le
   arrives (suc n) w s c le =
-    let k = nearer (w .panel) (w .motion) (s .stop) c in
-    subst (λ (x : Work). Arrived p ts (x .motion)) (sym (tick-first m ts n w))
+      let k = nearer (w .panel) (w .motion) (s .stop) c in
+      subst (λ (x : Work). Arrived p ts (x .motion)) (sym (tick-first m ts n w))
       (arrives n (happens m ts Tick w) (safe-tick m p ts fit (w .panel) (w .motion) s) (k .caps) (omega (arith, k .less)))

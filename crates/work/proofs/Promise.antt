@@ -24,14 +24,15 @@ kept m ts w (Knob n) h = refl
 
 pub of-safe : (m : Machine) (p : Place) (ts : List Target) (w : Work) → 1 ≤ m .change → Safe m p ts (w .motion) → Promise m p ts w
 of-safe m p ts w fit s = record {
-    on-path = on-path m p ts fit (w .motion) s;
-    can-stop = s .stop;
-    ticked = ticked m (w .panel) ts (w .motion) fit (s .stop);
-    kept = kept m ts w;
-    stands = stands-held m p ts fit w s;
-    arrives = λ n. arrives m p ts fit n w s;
-    fewest = fewest m p ts fit w s;
-    fewest-of-all = fewest-of-all m p ts fit w s }
+  on-path = on-path m p ts fit (w .motion) s;
+  can-stop = s .stop;
+  ticked = ticked m (w .panel) ts (w .motion) fit (s .stop);
+  kept = kept m ts w;
+  stands = stands-held m p ts fit w s;
+  arrives = λ n. arrives m p ts fit n w s;
+  fewest = fewest m p ts fit w s;
+  fewest-of-all = fewest-of-all m p ts fit w s;
+}
 
 pub promised : Promised
 promised m p ts es f = of-safe m p ts (after m ts p es) (f .changes) (safe-after m p ts (f .changes) es)

@@ -47,7 +47,7 @@ record Slowed (a : ℕ) (ts : List Target) (w v : Motion) : Type 0 where
   less : v .speed ≤ w .speed - a
 
 slowed-going : (a : ℕ) (ts : List Target) (w v : Motion) (t : Target) (us : List Target) (n : ℕ) → 1 ≤ a → todo ts w ≡ t ∷ us
-  → Goes-on n w v → n ≡ w .speed - a → Slowed a ts w v
+    → Goes-on n w v → n ≡ w .speed - a → Slowed a ts w v
 unfolding rest-place
 slowed-going a ts w v t us n p e g k =
     let d : todo ts v ≡ t ∷ us = ap (λ (b : ℕ). drop b ts) (g .behind) ∙ e in
@@ -55,13 +55,14 @@ slowed-going a ts w v t us n p e g k =
     record { same = rw (d, e, g .from, g .done, g .speed, k, f); less = omega (arith, g .speed) }
 
 slowed-ended : (a : ℕ) (ts : List Target) (w v : Motion) (t : Target) (us : List Target) (n : ℕ) → 1 ≤ a → todo ts w ≡ t ∷ us
-  → Ends-line a n (t .to) w v → n ≡ w .speed - a → w .done + stopping a (w .speed) ≤ long (w .from) (t .to) → Slowed a ts w v
+    → Ends-line a n (t .to) w v → n ≡ w .speed - a → w .done + stopping a (w .speed) ≤ long (w .from) (t .to) → Slowed a ts w v
 unfolding rest-place
 slowed-ended a ts w v t us n p e g k c =
     let f : w .done + stopping a (w .speed) ≡ long (w .from) (t .to) = omega (arith, slows a (w .speed) p, g .rest) in
     record {
       same = at-start a v (todo ts v) (g .done) (g .speed) ∙ g .from ∙ rw (e, f) (sym (ends (w .from) (t .to)));
-      less = omega (arith, g .speed) }
+      less = omega (arith, g .speed);
+    }
 
 module _ (m : Machine) (p : Place) (ts : List Target) (fit : 1 ≤ m .change) where
   slowed-tick : (q : Panel) (w : Motion) → q .held ≡ true → Can-stop (m .change) w (todo ts w) → Slowed (m .change) ts w (tick m q ts w)
@@ -70,8 +71,8 @@ module _ (m : Machine) (p : Place) (ts : List Target) (fit : 1 ≤ m .change) wh
       by : (xs : List Target) → todo ts w ≡ xs → Can-stop (m .change) w xs → Slowed (m .change) ts w (tick m q ts w)
       by [] e c = rw (none m q ts w e) (record { same = refl; less = omega arith })
       by (t ∷ us) e c =
-        ⊎-elim (λ g. slowed-going (m .change) ts w (tick m q ts w) t us _ fit e (g .0) (held-steps m q w t h))
-        (λ g. slowed-ended (m .change) ts w (tick m q ts w) t us _ fit e g (held-steps m q w t h) (c .0)) (ends-or-goes m q ts w fit t us e c)
+          ⊎-elim (λ g. slowed-going (m .change) ts w (tick m q ts w) t us _ fit e (g .0) (held-steps m q w t h))
+          (λ g. slowed-ended (m .change) ts w (tick m q ts w) t us _ fit e g (held-steps m q w t h) (c .0)) (ends-or-goes m q ts w fit t us e c)
 
   -- what a row with no go in it and k ticks keeps, from a held state with speed v that comes to a stand at r
   record Holding (r : Place) (v k : ℕ) (w : Work) : Type 0 where
@@ -82,8 +83,8 @@ module _ (m : Machine) (p : Place) (ts : List Target) (fit : 1 ≤ m .change) wh
 
   holding-event : (r : Place) (v k : ℕ) (x : Event) (w : Work) → quiet x → Holding r v k w → Holding r v (one x + k) (happens m ts x w)
   holding-event r v k Tick w z h =
-    let s = slowed-tick (w .panel) (w .motion) (h .held) (h .safe .stop) in
-    record { held = h .held; safe = safe-event m p ts fit Tick w (h .safe); same = s .same ∙ h .same; less = omega (arith, s .less, h .less) }
+      let s = slowed-tick (w .panel) (w .motion) (h .held) (h .safe .stop) in
+      record { held = h .held; safe = safe-event m p ts fit Tick w (h .safe); same = s .same ∙ h .same; less = omega (arith, s .less, h .less) }
   holding-event r v k Hold w z h = record { held = refl; safe = h .safe; same = h .same; less = omega (arith, h .less) }
   holding-event r v k Go w z h = absurd z
   holding-event r v k (Knob n) w z h = record { held = h .held; safe = h .safe; same = h .same; less = omega (arith, h .less) }
@@ -94,10 +95,10 @@ module _ (m : Machine) (p : Place) (ts : List Target) (fit : 1 ≤ m .change) wh
   holding-row r v (x ∷ es) w z h = holding-event r v (count es) x (row m ts es w) (z .0) (holding-row r v es w (z .1) h)
 
   pub stands-held : (w : Work) → Safe m p ts (w .motion) → (es : List Event) → Quiet es → w .motion .speed ≤ count es * m .change
-    → Stands m ts (w .motion) (row m ts es (happens m ts Hold w) .motion)
+      → Stands m ts (w .motion) (row m ts es (happens m ts Hold w) .motion)
   stands-held w s es z le =
-    let h = holding-row (rest-place (m .change) (w .motion) (todo ts (w .motion))) (w .motion .speed) es (happens m ts Hold w) z
-          (record { held = refl; safe = s; same = refl; less = omega arith }) in
-    let v : Motion = row m ts es (happens m ts Hold w) .motion in
-    let k : v .speed ≡ 0 = omega (arith, h .less) in
-    record { still = k; there = sym (at-rest (m .change) v (todo ts v) k) ∙ h .same }
+      let h = holding-row (rest-place (m .change) (w .motion) (todo ts (w .motion))) (w .motion .speed) es (happens m ts Hold w) z
+      (record { held = refl; safe = s; same = refl; less = omega arith }) in
+      let v : Motion = row m ts es (happens m ts Hold w) .motion in
+      let k : v .speed ≡ 0 = omega (arith, h .less) in
+      record { still = k; there = sym (at-rest (m .change) v (todo ts v) k) ∙ h .same }

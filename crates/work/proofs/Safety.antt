@@ -35,18 +35,20 @@ fresh a w (t ∷ us) d v = (omega (arith, slow a (w .speed) (omega arith)), omeg
 module _ (m : Machine) (p : Place) (ts : List Target) (fit : 1 ≤ m .change) where
   safe-ended : (w v : Motion) (n : ℕ) (t : Target) (us : List Target) → todo ts w ≡ t ∷ us → Ends-line (m .change) n (t .to) w v → Safe m p ts v
   safe-ended w v n t us e h = record {
-      few = omega (arith, h .behind, some-left ts (w .behind) t us e);
-      began = h .from ∙ sym (ap (start-of p ts) (h .behind) ∙ next-start p ts (w .behind) t us e);
-      stop = fresh (m .change) v (todo ts v) (h .done) (h .speed) }
+    few = omega (arith, h .behind, some-left ts (w .behind) t us e);
+    began = h .from ∙ sym (ap (start-of p ts) (h .behind) ∙ next-start p ts (w .behind) t us e);
+    stop = fresh (m .change) v (todo ts v) (h .done) (h .speed);
+  }
 
   safe-going : (w v : Motion) (n : ℕ) (t : Target) (us : List Target) → Safe m p ts w → todo ts w ≡ t ∷ us → Goes-on n w v
-    → w .done + n < long (w .from) (t .to) → w .done + n + stopping (m .change) n ≤ long (w .from) (t .to) → Safe m p ts v
+      → w .done + n < long (w .from) (t .to) → w .done + n + stopping (m .change) n ≤ long (w .from) (t .to) → Safe m p ts v
   safe-going w v n t us s e h k f =
-    let d : todo ts v ≡ t ∷ us = ap (λ (b : ℕ). drop b ts) (h .behind) ∙ e in
-    record {
-      few = omega (arith, h .behind, s .few);
-      began = h .from ∙ s .began ∙ sym (ap (start-of p ts) (h .behind));
-      stop = rw (d, h .from, h .done, h .speed) (f, omega arith) }
+      let d : todo ts v ≡ t ∷ us = ap (λ (b : ℕ). drop b ts) (h .behind) ∙ e in
+      record {
+        few = omega (arith, h .behind, s .few);
+        began = h .from ∙ s .began ∙ sym (ap (start-of p ts) (h .behind));
+        stop = rw (d, h .from, h .done, h .speed) (f, omega arith);
+      }
 
   pub safe-tick : (q : Panel) (w : Motion) → Safe m p ts w → Safe m p ts (tick m q ts w)
   safe-tick q w s = by (todo ts w) refl (s .stop)
@@ -54,8 +56,8 @@ module _ (m : Machine) (p : Place) (ts : List Target) (fit : 1 ≤ m .change) wh
       by : (xs : List Target) → todo ts w ≡ xs → Can-stop (m .change) w xs → Safe m p ts (tick m q ts w)
       by [] e c = rw (none m q ts w e) s
       by (t ∷ us) e c =
-        ⊎-elim (λ g. safe-going w (tick m q ts w) (steps (m .change) (limit m q (t .fast)) w t) t us s e (g .0) (g .1) (fitting m q ts w fit t us e c))
-        (λ g. safe-ended w (tick m q ts w) (steps (m .change) (limit m q (t .fast)) w t) t us e g) (ends-or-goes m q ts w fit t us e c)
+          ⊎-elim (λ g. safe-going w (tick m q ts w) (steps (m .change) (limit m q (t .fast)) w t) t us s e (g .0) (g .1) (fitting m q ts w fit t us e c))
+          (λ g. safe-ended w (tick m q ts w) (steps (m .change) (limit m q (t .fast)) w t) t us e g) (ends-or-goes m q ts w fit t us e c)
 
   pub safe-event : (x : Event) (w : Work) → Safe m p ts (w .motion) → Safe m p ts (happens m ts x w .motion)
   safe-event Tick w s = safe-tick (w .panel) (w .motion) s
@@ -76,10 +78,11 @@ module _ (m : Machine) (p : Place) (ts : List Target) (fit : 1 ≤ m .change) wh
   unfolding stands
   stood-in w [] c = refl
   stood-in w (t ∷ us) c = record {
-      at = refl;
-      within = omega arith;
-      across = nearest-x (w .from) (t .to) (w .done);
-      along = nearest-y (w .from) (t .to) (w .done) }
+    at = refl;
+    within = omega arith;
+    across = nearest-x (w .from) (t .to) (w .done);
+    along = nearest-y (w .from) (t .to) (w .done);
+  }
 
   pub on-path : (w : Motion) → Safe m p ts w → On-path p ts w
   on-path w s = record { few = s .few; began = s .began; stood = stood-in w (todo ts w) (s .stop) }

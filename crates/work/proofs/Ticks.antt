@@ -72,14 +72,16 @@ module _ (m : Machine) (q : Panel) (ts : List Target) (w : Motion) (p : 1 ≤ m 
 
   pub ends-or-goes : (Goes-on n w (tick m q ts w) × (w .done + n < l)) ⊎ Ends-line (m .change) n (t .to) w (tick m q ts w)
   ends-or-goes = elim (cases-lt (w .done + n) l) [
-      inl h ↦ inl (rw (going m q ts w t us e h) (record { behind = refl; from = refl; done = refl; speed = refl }), h)
-    | inr h ↦ inr (rw (ending m q ts w t us e h) (record { behind = refl; from = refl; done = refl; speed = refl; rest = omega (arith, within); slow = omega (arith, fitting, slows (m .change) n p) })) ]
+    | inl h ↦ inl (rw (going m q ts w t us e h) (record { behind = refl; from = refl; done = refl; speed = refl }), h)
+    | inr h ↦ inr (rw (ending m q ts w t us e h) (record { behind = refl; from = refl; done = refl; speed = refl; rest = omega (arith, within); slow = omega (arith, fitting, slows (m .change) n p) }))
+  ]
 
   pub lands : place ts (tick m q ts w) ≡ on-line (w .from) (t .to) (w .done + n)
   unfolding stands
   lands = elim (cases-lt (w .done + n) l) [
-      inl h ↦ rw (going m q ts w t us e h) (ap (stands (gone-on w n)) e)
-    | inr h ↦ rw (ending m q ts w t us e h) (begins (at-end w t) (todo ts (at-end w t)) refl ∙ sym (ends (w .from) (t .to)) ∙ ap (on-line (w .from) (t .to)) (omega (arith, within))) ]
+    | inl h ↦ rw (going m q ts w t us e h) (ap (stands (gone-on w n)) e)
+    | inr h ↦ rw (ending m q ts w t us e h) (begins (at-end w t) (todo ts (at-end w t)) refl ∙ sym (ends (w .from) (t .to)) ∙ ap (on-line (w .from) (t .to)) (omega (arith, within)))
+  ]
 
   pub leaves : place ts w ≡ on-line (w .from) (t .to) (w .done)
   unfolding stands
@@ -90,13 +92,14 @@ module _ (m : Machine) (q : Panel) (ts : List Target) (w : Motion) (p : 1 ≤ m 
 
   pub ticked-on : Ticked m q ts w (tick m q ts w)
   ticked-on = record {
-      up = rw e (next-of .up);
-      down = rw e (next-of .down);
-      capped = rw e (next-of .capped);
-      moved = rw e (rw e at moved-by);
-      across = rw (lands, leaves, e) (walks (w .from) (t .to) (w .done) n within .0);
-      along = rw (lands, leaves, e) (walks (w .from) (t .to) (w .done) n within .1);
-      few = rw e (omega (arith, next-of .capped)) }
+    up = rw e (next-of .up);
+    down = rw e (next-of .down);
+    capped = rw e (next-of .capped);
+    moved = rw e (rw e at moved-by);
+    across = rw (lands, leaves, e) (walks (w .from) (t .to) (w .done) n within .0);
+    along = rw (lands, leaves, e) (walks (w .from) (t .to) (w .done) n within .1);
+    few = rw e (omega (arith, next-of .capped));
+  }
 
 -- with no target left nothing moves
 ticked-none : (m : Machine) (q : Panel) (ts : List Target) (w : Motion) → todo ts w ≡ [] → w .speed ≡ 0 → Ticked m q ts w (tick m q ts w)
@@ -109,7 +112,8 @@ ticked-none m q ts w e z =
       moved = rw e (rw e at f);
       across = rw (f, e) (omega (arith, ints));
       along = rw (f, e) (omega (arith, ints));
-      few = rw e (omega arith) }
+      few = rw e (omega arith);
+    }
 
 pub ticked : (m : Machine) (q : Panel) (ts : List Target) (w : Motion) → 1 ≤ m .change → Can-stop (m .change) w (todo ts w) → Ticked m q ts w (tick m q ts w)
 ticked m q ts w p s = by (todo ts w) refl s

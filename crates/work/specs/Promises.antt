@@ -144,8 +144,8 @@ pub record Arrived (p : Place) (ts : List Target) (w : Motion) : Type 0 where
 pub data Runs (m : Machine) (q : Panel) : Place → ℕ → ℕ → List Target → ℕ → Type 0 where
   ended : (p : Place) (x v : ℕ) → Runs m q p x v [] 0
   line :
-    (p : Place) (x v : ℕ) (t : Target) (ts : List Target) (n k w : ℕ) → 1 ≤ n → Run (m .change) (limit m q (t .fast)) x v n (long p (t .to)) w →
-    w ≤ m .change → Runs m q (t .to) 0 0 ts k → Runs m q p x v (t ∷ ts) (n + k)
+      (p : Place) (x v : ℕ) (t : Target) (ts : List Target) (n k w : ℕ) → 1 ≤ n → Run (m .change) (limit m q (t .fast)) x v n (long p (t .to)) w →
+      w ≤ m .change → Runs m q (t .to) 0 0 ts k → Runs m q p x v (t ∷ ts) (n + k)
 
 pub record Promise (m : Machine) (p : Place) (ts : List Target) (w : Work) : Type 0 where
   -- it is on the path
@@ -158,20 +158,20 @@ pub record Promise (m : Machine) (p : Place) (ts : List Target) (w : Work) : Typ
   pub kept : (e : Event) → (e ≡ Tick → ⊥) → happens m ts e w .motion ≡ w .motion
   -- held, it comes to a stand within as many ticks as its speed needs, where its stopping distance says, and stays
   pub stands :
-    (es : List Event) → Quiet es → w .motion .speed ≤ count es * m .change → Stands m ts (w .motion) (row m ts es (happens m ts Hold w) .motion)
+      (es : List Event) → Quiet es → w .motion .speed ≤ count es * m .change → Stands m ts (w .motion) (row m ts es (happens m ts Hold w) .motion)
   -- let go, with caps of at least 1, it comes to the last target exactly
   pub arrives :
-    (n : ℕ) → Caps m (w .panel) (todo ts (w .motion)) → to-go (w .motion .from) (w .motion .done) (todo ts (w .motion)) ≤ n →
-    Arrived p ts (row m ts (ticks n) w .motion)
+      (n : ℕ) → Caps m (w .panel) (todo ts (w .motion)) → to-go (w .motion .from) (w .motion .done) (todo ts (w .motion)) ≤ n →
+      Arrived p ts (row m ts (ticks n) w .motion)
   -- along its line no run that keeps the limits is there in fewer ticks
   pub fewest :
-    (t : Target) (us : List Target) (n u : ℕ) → todo ts (w .motion) ≡ t ∷ us → 1 ≤ n →
-    Run (m .change) (limit m (w .panel) (t .fast)) (w .motion .done) (w .motion .speed) n (long (w .motion .from) (t .to)) u → u ≤ m .change →
-    w .motion .behind < row m ts (ticks n) w .motion .behind
+      (t : Target) (us : List Target) (n u : ℕ) → todo ts (w .motion) ≡ t ∷ us → 1 ≤ n →
+      Run (m .change) (limit m (w .panel) (t .fast)) (w .motion .done) (w .motion .speed) n (long (w .motion .from) (t .to)) u → u ≤ m .change →
+      w .motion .behind < row m ts (ticks n) w .motion .behind
   -- nor line after line
   pub fewest-of-all :
-    (n : ℕ) → Runs m (w .panel) (w .motion .from) (w .motion .done) (w .motion .speed) (todo ts (w .motion)) n →
-    row m ts (ticks n) w .motion .behind ≡ length ts
+      (n : ℕ) → Runs m (w .panel) (w .motion .from) (w .motion .done) (w .motion .speed) (todo ts (w .motion)) n →
+      row m ts (ticks n) w .motion .behind ≡ length ts
 
 abbrev pub Promised : Type 0
 Promised = (m : Machine) (p : Place) (ts : List Target) (es : List Event) → Fit m → Promise m p ts (after m ts p es)

@@ -4,13 +4,18 @@
 --   arrive w q n v       after n steps of the line to q: where its length is reached the next line begins at 0 with speed 0
 --   advance a c w t      a tick under the cap c, on the way to t
 --   todo ts w            the targets that are not behind it
---   tick m q ts w        a tick of motion; with no target left nothing happens
---   happens m ts e w     what an event does
+--   toward m q w xs      a tick of motion with the targets xs still to go; with none nothing happens
+--   tick m q ts w        a tick of motion along the targets ts
+--   held, let-go, turned-to   what a hold, a go and a turn of the knob do to the panel, and to nothing else
+--   does m xs e w        what an event does, with the targets xs still to go
+--   happens m ts e w     what an event does along the targets ts
 --   row m ts es w        a row of events, the latest first
 --   ticks n              n ticks in a row
+--   begun-at p           motion that begins at p
 --   begun p              work that begins at p: not held, the knob at 100, speed 0
 --   after m ts p es      what a row of events leads to from the beginning
---   place ts w           where it is
+--   stands w xs          where it is, with the targets xs still to go
+--   place ts w           where it is along the targets ts
 use mathlib.Core.Bool.{Bool, true, false, cond}
 use mathlib.Core.List.{List, [], _∷_}
 use Prim.Native.Nat.{ℕ, zero, suc, _+_, _-_, _*_, _/_, min}
@@ -52,11 +57,23 @@ toward m q w (t ∷ ts) = advance (m .change) (limit m q (t .fast)) w t
 abbrev pub tick : Machine → Panel → List Target → Motion → Motion
 tick m q ts w = toward m q w (todo ts w)
 
+abbrev pub held : Work → Work
+held w = record { motion = w .motion; panel = record { held = true; percent = w .panel .percent } }
+
+abbrev pub let-go : Work → Work
+let-go w = record { motion = w .motion; panel = record { held = false; percent = w .panel .percent } }
+
+abbrev pub turned-to : ℕ → Work → Work
+turned-to n w = record { motion = w .motion; panel = record { held = w .panel .held; percent = min n 100 } }
+
+abbrev pub does : Machine → List Target → Event → Work → Work
+does m xs Tick w = record { motion = toward m (w .panel) (w .motion) xs; panel = w .panel }
+does m xs Hold w = held w
+does m xs Go w = let-go w
+does m xs (Knob n) w = turned-to n w
+
 abbrev pub happens : Machine → List Target → Event → Work → Work
-happens m ts Tick w = record { motion = tick m (w .panel) ts (w .motion); panel = w .panel }
-happens m ts Hold w = record { motion = w .motion; panel = record { held = true; percent = w .panel .percent } }
-happens m ts Go w = record { motion = w .motion; panel = record { held = false; percent = w .panel .percent } }
-happens m ts (Knob n) w = record { motion = w .motion; panel = record { held = w .panel .held; percent = min n 100 } }
+happens m ts e w = does m (todo ts (w .motion)) e w
 
 unfoldable pub row : Machine → List Target → List Event → Work → Work
 row m ts [] w = w
@@ -66,8 +83,11 @@ unfoldable pub ticks : ℕ → List Event
 ticks zero = []
 ticks (suc n) = Tick ∷ ticks n
 
+abbrev pub begun-at : Place → Motion
+begun-at p = record { behind = 0; from = p; done = 0; speed = 0 }
+
 abbrev pub begun : Place → Work
-begun p = record { motion = record { behind = 0; from = p; done = 0; speed = 0 }; panel = record { held = false; percent = 100 } }
+begun p = record { motion = begun-at p; panel = record { held = false; percent = 100 } }
 
 abbrev pub after : Machine → List Target → Place → List Event → Work
 after m ts p es = row m ts es (begun p)

@@ -4,6 +4,8 @@
 //
 // Only a tick moves anything, and it sees the panel as one number, the cap. A hold, a go and a turn of the knob change
 // the panel alone. It knows nothing of texts, or of numbers lent by others.
+ghost use Rattle.work.specs.Promises.{Promised};
+
 mod event;
 mod machine;
 mod motion;
@@ -15,3 +17,10 @@ pub use machine::Machine;
 pub use motion::Motion;
 pub use panel::Panel;
 pub use work::Work;
+
+// The promise holds: for every machine that can move, every list of targets and every row of events.
+pub fn promise_holds() -> u8
+    ensures { λ _. ⌜ Promised ⌝ }
+{
+    0
+}
