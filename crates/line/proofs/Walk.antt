@@ -2,13 +2,13 @@
 use mathlib.Core.Path.{_≡_}
 use Prim.Native.Nat.{ℕ, _+_, _*_, _≤_, _<_}
 use native.Mathlib.Omega.{arith}
-use lib.IntN.{ℤ, _-ℤ_, natAbs}
+use lib.IntN.{ℤ, _+ℤ_, _-ℤ_, natAbs}
 use Rattle.std.proofs.shelf.Signed.{ints}
 use Rattle.geometry.specs.declared.place.Place.{Place}
 use Rattle.geometry.specs.Places.{Within}
 use Rattle.line.specs.Laws.{Nearest}
-use Rattle.line.specs.Lines.{long, on-line}
-use Rattle.line.proofs.Shares.{starts-axis, ends-axis, steps-axis, nearest-axis}
+use Rattle.line.specs.Lines.{share, long, on-line}
+use Rattle.line.proofs.Shares.{share-by, share-none, starts-axis, ends-axis, steps-axis, nearest-axis}
 
 pub same-place : {p q : Place} → p .x ≡ q .x → p .y ≡ q .y → p ≡ q
 same-place e f = λ i. record { x = e i; y = f i }
@@ -50,3 +50,13 @@ nearest-x p q n h = nearest-axis (p .x) (q .x) (long p q) n h
 pub nearest-y : (p q : Place) (n : ℕ) → 0 < long p q → Nearest n (long p q) (q .y -ℤ p .y) (on-line p q n .y -ℤ p .y)
 unfolding on-line
 nearest-y p q n h = nearest-axis (p .y) (q .y) (long p q) n h
+
+-- after n steps no axis is farther than n from where it began
+pub strays : (p q : Place) (n : ℕ) → (natAbs (on-line p q n .x -ℤ p .x) ≤ n) × (natAbs (on-line p q n .y -ℤ p .y) ≤ n)
+unfolding on-line
+strays p q n = (by-axis (p .x) (q .x) (long-x p q), by-axis (p .y) (q .y) (long-y p q))
+  where
+    by-axis : (a b : ℤ) → natAbs (b -ℤ a) ≤ long p q → natAbs (a +ℤ share n (long p q) (b -ℤ a) -ℤ a) ≤ n
+    by-axis a b h =
+        let e : 0 + n ≡ n = omega arith in
+        omega (arith, ints, rw e at (share-by 0 n (long p q) (b -ℤ a) h), share-none (long p q) (b -ℤ a) h)

@@ -1,7 +1,7 @@
 -- The ranges of numbers that work's code asks for, so that its sums and products fit their types. Assumes nothing.
 --   Small a w       speed, steps and targets behind that a tick with the change a can add to
 --   Near w next     places within 10^9 and steps within 2 * 10^9, on the way to a target or with none left
---   Slow m w        Small, and a top speed that the percent can be multiplied with
+--   Ready m w next  with a target left: Small, and a top speed that the percent can be multiplied with
 use Prim.Native.Nat.{ℕ, _+_, _^_, _≤_, _<_}
 use Rattle.geometry.specs.Places.{Within}
 use Rattle.program.specs.declared.target.Target.{Target}
@@ -28,3 +28,7 @@ Near w (Some t) = Near-line w t
 pub record Slow (m : Machine) (w : Motion) : Type 0 where
   pub small : Small (m .change) w
   pub top : m .top < 2 ^ 32
+
+abbrev pub Ready : Machine → Motion → Option Target → Type 0
+Ready m w None = Unit {0}
+Ready m w (Some t) = Slow m w

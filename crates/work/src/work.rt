@@ -1,7 +1,7 @@
 // Work: the motion and the panel. Each method takes it by value and gives it back.
 ghost use mathlib.Core.Path.{_≡_};
 ghost use Rattle.std.specs.Vec.{listOf};
-ghost use Rattle.work.specs.Ranges.{Slow};
+ghost use Rattle.work.specs.Ranges.{Ready};
 ghost use Rattle.work.specs.Works.{begun, held, let-go, turned-to, does};
 ghost use Rattle.work.specs.declared.event.Event.the-variants.{Tick};
 use crate::event::Event;
@@ -33,7 +33,7 @@ impl Work {
 
     // A tick, on the way to the next target; with none left nothing moves.
     pub fn tick(self, machine: Machine, next: Option<Target>) -> Work
-        requires slow { ⌜ Slow machine (self .motion) ⌝ }
+        requires ready { ⌜ Ready machine (self .motion) next ⌝ }
         ensures { λ r. ⌜ r ≡ does machine (listOf next) Tick self ⌝ }
     {
         match next {
@@ -93,7 +93,7 @@ impl Work {
 
     // What an event does.
     pub fn happen(self, machine: Machine, next: Option<Target>, event: Event) -> Work
-        requires slow { ⌜ Slow machine (self .motion) ⌝ }
+        requires ready { ⌜ Ready machine (self .motion) next ⌝ }
         ensures { λ r. ⌜ r ≡ does machine (listOf next) event self ⌝ }
     {
         match event {

@@ -1,0 +1,123 @@
+-- The same of a loaded control, whose ghost fields say how its state came about.
+use mathlib.Core.Path.{_≡_, refl, sym, _∙_, ap, subst}
+use mathlib.Core.Bool.{Bool, true, false, cond}
+use mathlib.Core.List.{List, [], _∷_, _++_}
+use mathlib.Core.Logic.{∥∥₁-elim, ∥∥₁-map}
+use Prim.Native.Nat.{ℕ, zero, suc, _+_, _^_, _≤_, _<_}
+use native.Mathlib.Bridge.{le-prop}
+use native.Mathlib.Omega.{arith}
+use lib.ListN.{length, drop}
+use Rattle.std.specs.Of.Vec.{vec-items}
+use Rattle.std.specs.declared.option.Option.{Option}
+use Rattle.std.specs.declared.result.Result.the-variants.{Ok, Err}
+use Rattle.refusal.specs.declared.Refusal.the-variants.{Machine as Unfit}
+use Rattle.std.specs.declared.option.Option.the-variants.{Some, None}
+use Rattle.geometry.specs.declared.place.Place.{Place}
+use Rattle.geometry.specs.Places.{Within}
+use Rattle.program.specs.declared.target.Target.{Target}
+use Rattle.work.specs.declared.machine.Machine.{Machine}
+use Rattle.work.specs.declared.motion.Motion.{Motion}
+use Rattle.work.specs.declared.work.Work.{Work}
+use Rattle.work.specs.declared.event.Event.{Event}
+use Rattle.work.specs.declared.event.Event.the-variants.{Tick}
+use Rattle.work.specs.Works.{todo, happens, row, begun, place}
+use Rattle.work.specs.Promises.{Promise}
+use Rattle.work.specs.Ranges.{Small, Near-line, Near, Slow, Ready}
+use Rattle.work.proofs.Promise.{of-safe}
+use Rattle.work.proofs.Safety.{Safe, safe-after}
+use Rattle.pulses.specs.declared.Pulses.{Pulses}
+use Rattle.pulses.specs.Motors.{between, pulses}
+use Rattle.control.specs.Controls.{in-range, machine-of, fit, near, origin, head-of, Reached, Happened, Few}
+use Rattle.control.specs.declared.control.Control.{Control}
+use Rattle.control.proofs.Bounds as bounds
+
+within-prop : (n : ℕ) (p : Place) → IsProp (Within n p)
+within-prop n p a b = λ i. record { across = le-prop (a .across) (b .across) i; along = le-prop (a .along) (b .along) i }
+
+near-prop : (w : Motion) (next : Option Target) → IsProp (Near w next)
+near-prop w None a b = refl
+near-prop w (Some t) a b = λ i. record {
+  begins = within-prop 1000000000 (w .from) (a .begins) (b .begins) i;
+  ends = within-prop 1000000000 (t .to) (a .ends) (b .ends) i;
+  short = le-prop (a .short) (b .short) i;
+}
+
+ready-prop : (m : Machine) (w : Motion) (next : Option Target) → IsProp (Ready m w next)
+ready-prop m w None a b = refl
+ready-prop m w (Some t) a b = λ i. record {
+  small = record {
+    changes = le-prop (a .small .changes) (b .small .changes) i;
+    slow = le-prop (a .small .slow) (b .small .slow) i;
+    short = le-prop (a .small .short) (b .small .short) i;
+    few = le-prop (a .small .few) (b .small .few) i;
+  };
+  top = le-prop (a .top) (b .top) i;
+}
+
+safe : (m : Machine) (ts : List Target) (w : Work) → fit m ≡ true → Reached m ts w → Safe m origin ts (w .motion)
+safe m ts w f r = subst (λ (v : Work). Safe m origin ts (v .motion)) (sym (r .is)) (safe-after m origin ts (bounds.range m f .0) (r .events))
+
+promise-of : (m : Machine) (ts : List Target) (w : Work) → fit m ≡ true → Reached m ts w → Promise m origin ts w
+promise-of m ts w f r = of-safe m origin ts w (bounds.range m f .0) (safe m ts w f r)
+
+-- an event more
+pub reached-on : (m : Machine) (ts : List Target) (w v : Work) (e : Event) → ∥ Reached m ts w ∥₁ → v ≡ happens m ts e w → ∥ Reached m ts v ∥₁
+unfolding row
+reached-on m ts w v e r h = ∥∥₁-map r (λ k. record { events = e ∷ k .events; is = h ∙ ap (happens m ts e) (k .is) })
+
+-- the beginning, and a machine that passed its checks
+pub reached-first : (m : Machine) (ts : List Target) (w : Work) → w ≡ begun origin → ∥ Reached m ts w ∥₁
+unfolding row
+reached-first m ts w e = ∣ record { events = []; is = e } ∣₁
+
+pub fit-of : (a t : ℕ) (m : Machine) → Ok m ≡ machine-of a t → fit m ≡ true
+fit-of a t m e = by (in-range a) (in-range t) refl refl e
+  where
+    by : (x y : Bool) → in-range a ≡ x → in-range t ≡ y → Ok m ≡ cond x (cond y (Ok (record { change = a; top = t })) (Err (Unfit 1))) (Err (Unfit 0)) → fit m ≡ true
+    by true true i j e = let k : m ≡ record { change = a; top = t } = cc in rw (k, i, j)
+    by true false i j e = let z : _≡_ {A = ℕ} 0 1 = cc in absurd (omega arith)
+    by false y i j e = let z : _≡_ {A = ℕ} 0 1 = cc in absurd (omega arith)
+
+module _ (c : Control) where
+  abbrev ts : List Target
+  ts = vec-items (c .targets)
+
+  pub near-next : (next : Option Target) → next ≡ head-of (todo ts (c .work .motion)) → Near (c .work .motion) next
+  near-next next e = ∥∥₁-elim (c .reached) (near-prop (c .work .motion) next)
+      (λ r. bounds.near-next (c .machine) ts (c .work .motion) (c .fits) (c .close) (safe (c .machine) ts (c .work) (c .fits) r) next e)
+
+  pub ready-next : (next : Option Target) → next ≡ head-of (todo ts (c .work .motion)) → Ready (c .machine) (c .work .motion) next
+  ready-next next e = ∥∥₁-elim (c .reached) (ready-prop (c .machine) (c .work .motion) next)
+      (λ r. bounds.ready-next (c .machine) ts (c .work .motion) (c .fits) (c .close) (safe (c .machine) ts (c .work) (c .fits) r) (omega (arith, c .targets .ok .0, c .targets .small)) next e)
+
+  pub ghosts : (e : Event) (v : Work) → v ≡ happens (c .machine) ts e (c .work)
+      → (fit (c .machine) ≡ true) × ((near ts ≡ true) × (∥ Reached (c .machine) ts v ∥₁ × Unit {0}))
+  ghosts e v h = (c .fits, (c .close, (reached-on (c .machine) ts (c .work) v e (c .reached) h, tt)))
+
+  pub happened : (e : Event) (v : Work) → v ≡ happens (c .machine) ts e (c .work) → Happened (c .machine) ts (c .work) e (c .machine) ts v
+  happened e v h = record {
+    machine = refl;
+    targets = refl;
+    work = h;
+    promise = ∥∥₁-map (reached-on (c .machine) ts (c .work) v e (c .reached) h) (λ r. promise-of (c .machine) ts v (c .fits) r);
+  }
+
+  pub place-near : Within 4000000000 (place ts (c .work .motion))
+  place-near = ∥∥₁-elim (c .reached) (within-prop 4000000000 (place ts (c .work .motion)))
+      (λ r. bounds.place-near (c .machine) ts (c .work .motion) (c .fits) (c .close) (safe (c .machine) ts (c .work) (c .fits) r))
+
+  -- and so after an event
+  pub lands-near : (e : Event) (v : Work) → v ≡ happens (c .machine) ts e (c .work) → Within 4000000000 (place ts (v .motion))
+  lands-near e v h = ∥∥₁-elim (reached-on (c .machine) ts (c .work) v e (c .reached) h) (within-prop 4000000000 (place ts (v .motion)))
+      (λ r. bounds.place-near (c .machine) ts (v .motion) (c .fits) (c .close) (safe (c .machine) ts v (c .fits) r))
+
+  few-prop : (d : Pulses) → IsProp (Few (c .machine) ts (c .work) d)
+  few-prop d a b = λ i. record { across = le-prop (a .across) (b .across) i; along = le-prop (a .along) (b .along) i }
+
+  pub few : Few (c .machine) ts (c .work) (pulses (c .machine) ts Tick (c .work))
+  few = ∥∥₁-elim (c .reached) (few-prop (pulses (c .machine) ts Tick (c .work)))
+      (λ r. let t = promise-of (c .machine) ts (c .work) (c .fits) r .ticked in record { across = omega (arith, t .across, t .few); along = omega (arith, t .along, t .few) })
+
+  pub gives : (v : Work) (p q : Place) (d : Pulses) → v ≡ happens (c .machine) ts Tick (c .work) → p ≡ place ts (c .work .motion)
+      → q ≡ place ts (v .motion) → d ≡ between p q → d ≡ pulses (c .machine) ts Tick (c .work)
+  gives v p q d h i j k = k ∙ rw (i, j, h)

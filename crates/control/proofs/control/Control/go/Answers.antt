@@ -1,0 +1,9 @@
+use Rattle.work.specs.declared.event.Event.the-variants.{Go}
+use Rattle.control.proofs.States.{ghosts, happened}
+use Rattle.control.proofs.control.Control.go.Needs as need
+
+pub ghost-self : need.ghost-self
+ghost-self c = ghosts (c .args .self .now) Go (c .go-self .result) (c .go-self .ensures)
+
+pub returns : need.returns
+returns c = happened (c .args .self .now) Go (c .go-self .result) (c .go-self .ensures)

@@ -1,0 +1,109 @@
+// A loaded control. What holds of it in every state: its machine can move, its targets are near, and its work is what
+// some row of events leads to from the beginning.
+ghost use mathlib.Core.Bool.{true};
+ghost use mathlib.Core.Path.{_≡_};
+ghost use Rattle.control.specs.Controls.{fit, near, origin, head-of, load-of, Reached, Happened, Few};
+ghost use Rattle.pulses.specs.Motors.{pulses};
+ghost use Rattle.std.specs.Of.Vec.{vec-items};
+ghost use Rattle.std.specs.Results.{Cases};
+ghost use Rattle.std.specs.declared.result.Result.the-variants.{Ok, Err};
+ghost use Rattle.work.specs.Works.{todo, begun, place};
+ghost use Rattle.work.specs.declared.event.Event.the-variants.{Tick, Hold, Go, Knob};
+use crate::machines::machine;
+use geometry::Place;
+use program::Target;
+use pulses::Pulses;
+use refusal::Refusal;
+use work::Machine;
+use work::Work;
+
+// How far a target may lie on an axis.
+const REACH: u64 = 1_000_000_000;
+
+#[derive(Drop)]
+pub struct Control {
+    machine: Machine,
+    targets: Vec<Target>,
+    work: Work,
+    ghost fits: { fit machine ≡ true },
+    ghost close: { near (vec-items targets) ≡ true },
+    ghost reached: { ∥ Reached machine (vec-items targets) work ∥₁ },
+}
+
+impl Control {
+    // A control at the beginning, at 0, 0, with its machine and targets checked.
+    pub fn load(change: u64, top: u64, targets: Vec<Target>) -> Result<Control, Refusal>
+        ensures { λ r. ⌜ Cases r (λ c. (load-of change top (vec-items targets) ≡ Ok (c .machine)) × (c .targets ≡ targets) × (c .work ≡ begun origin)) (λ e. load-of change top (vec-items targets) ≡ Err e) ⌝ }
+    {
+        let machine = machine(change, top)?;
+        if !all_near(&targets) {
+            return Err(Refusal::Lent(1));
+        }
+        Ok(Control {
+            machine,
+            targets,
+            work: Work::begin(Place::ORIGIN),
+        })
+    }
+
+    // A tick, and the pulses that it gives.
+    pub fn tick(&mut self) -> Pulses
+        ensures happened { λ _. ⌜ Happened (now (self .entry) .machine) (vec-items (now (self .entry) .targets)) (now (self .entry) .work) Tick (now (self .exit) .machine) (vec-items (now (self .exit) .targets)) (now (self .exit) .work) ⌝ }
+        ensures pulses { λ r. ⌜ r ≡ pulses (now (self .entry) .machine) (vec-items (now (self .entry) .targets)) Tick (now (self .entry) .work) ⌝ }
+        ensures few { λ r. ⌜ Few (now (self .entry) .machine) (vec-items (now (self .entry) .targets)) (now (self .entry) .work) r ⌝ }
+    {
+        let before = self.place();
+        self.work = self.work.tick(self.machine, self.next());
+        Pulses::between(before, self.place())
+    }
+
+    // Held: it slows as much as may be, and stands.
+    pub fn hold(&mut self)
+        ensures { λ _. ⌜ Happened (now (self .entry) .machine) (vec-items (now (self .entry) .targets)) (now (self .entry) .work) Hold (now (self .exit) .machine) (vec-items (now (self .exit) .targets)) (now (self .exit) .work) ⌝ }
+    {
+        self.work = self.work.hold();
+    }
+
+    // Let go.
+    pub fn go(&mut self)
+        ensures { λ _. ⌜ Happened (now (self .entry) .machine) (vec-items (now (self .entry) .targets)) (now (self .entry) .work) Go (now (self .exit) .machine) (vec-items (now (self .exit) .targets)) (now (self .exit) .work) ⌝ }
+    {
+        self.work = self.work.go();
+    }
+
+    // The knob turned to a percent, above 100 meaning 100.
+    pub fn knob(&mut self, percent: u64)
+        ensures { λ _. ⌜ Happened (now (self .entry) .machine) (vec-items (now (self .entry) .targets)) (now (self .entry) .work) (Knob percent) (now (self .exit) .machine) (vec-items (now (self .exit) .targets)) (now (self .exit) .work) ⌝ }
+    {
+        self.work = self.work.knob(percent);
+    }
+
+    // The target that it is on the way to, if any is left.
+    fn next(&self) -> Option<Target>
+        ensures { λ r. ⌜ r ≡ head-of (todo (vec-items (now (self .entry) .targets)) (now (self .entry) .work .motion)) ⌝ }
+    {
+        if self.work.motion.behind < self.targets.len() {
+            return Some(self.targets[self.work.motion.behind]);
+        }
+        None
+    }
+
+    // Where it is.
+    pub fn place(&self) -> Place
+        ensures { λ r. ⌜ r ≡ place (vec-items (now (self .entry) .targets)) (now (self .entry) .work .motion) ⌝ }
+    {
+        self.work.motion.place(self.next())
+    }
+}
+
+// Whether no target is past 10^9 on an axis.
+fn all_near(targets: &[Target]) -> bool
+    ensures { λ r. ⌜ r ≡ near (now (targets .entry)) ⌝ }
+{
+    for target in targets {
+        if !target.to.is_within(REACH) {
+            return false;
+        }
+    }
+    true
+}
