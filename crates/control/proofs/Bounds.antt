@@ -1,7 +1,7 @@
 -- What the code's sums and products ask for, of every state that a row of events leads to.
 use mathlib.Core.Path.{_≡_, refl, sym, _∙_, ap, subst}
 use mathlib.Core.Bool.{Bool, true, false, _&&_}
-use mathlib.Core.List.{List, [], _∷_}
+use mathlib.Core.List.{List, [], _∷_, _++_}
 use Prim.Native.Nat.{ℕ, zero, suc, _+_, _-_, _*_, _^_, _≤_, _<_, max}
 use native.Mathlib.Omega.{arith}
 use lib.Dec.{leb}
@@ -55,6 +55,11 @@ unfolding near start-of
 near-start p ts zero h w = w
 near-start p [] (suc k) h w = w
 near-start p (t ∷ ts) (suc k) h w = near-start (t .to) ts k (both _ _ h .1) (within-fact 1000000000 (t .to) (both _ _ h .0))
+
+pub near-push : (ts : List Target) (t : Target) → near ts ≡ true → within 1000000000 (t .to) ≡ true → near (ts ++ t ∷ []) ≡ true
+unfolding near
+near-push [] t h k = ap (λ (b : Bool). b && true) k
+near-push (x ∷ ts) t h k = ap (λ (b : Bool). b && near (ts ++ t ∷ [])) (both _ _ h .0) ∙ near-push ts t (both _ _ h .1) k
 
 -- the target at a place of the list is the first of those still to go there
 pub head-at : (ts : List Target) (b : ℕ) (x : Target) → b < length ts → x ≡ getD ts b x → Some x ≡ head-of (drop b ts)

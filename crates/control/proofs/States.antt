@@ -2,25 +2,26 @@
 use mathlib.Core.Path.{_≡_, refl, sym, _∙_, ap, subst}
 use mathlib.Core.Bool.{Bool, true, false, cond}
 use mathlib.Core.List.{List, [], _∷_, _++_}
-use mathlib.Core.Logic.{∥∥₁-elim, ∥∥₁-map}
+use mathlib.Core.Logic.{_⊎_, inl, inr, ⊎-elim, ∥∥₁-elim, ∥∥₁-map}
 use Prim.Native.Nat.{ℕ, zero, suc, _+_, _^_, _≤_, _<_}
 use native.Mathlib.Bridge.{le-prop}
 use native.Mathlib.Omega.{arith}
 use lib.ListN.{length, drop}
+use lib.Seq.{drop-append-le}
 use Rattle.std.specs.Of.Vec.{vec-items}
 use Rattle.std.specs.declared.option.Option.{Option}
 use Rattle.std.specs.declared.result.Result.the-variants.{Ok, Err}
 use Rattle.refusal.specs.declared.Refusal.the-variants.{Machine as Unfit}
 use Rattle.std.specs.declared.option.Option.the-variants.{Some, None}
 use Rattle.geometry.specs.declared.place.Place.{Place}
-use Rattle.geometry.specs.Places.{Within}
+use Rattle.geometry.specs.Places.{within, Within}
 use Rattle.program.specs.declared.target.Target.{Target}
 use Rattle.work.specs.declared.machine.Machine.{Machine}
 use Rattle.work.specs.declared.motion.Motion.{Motion}
 use Rattle.work.specs.declared.work.Work.{Work}
 use Rattle.work.specs.declared.event.Event.{Event}
-use Rattle.work.specs.declared.event.Event.the-variants.{Tick}
-use Rattle.work.specs.Works.{todo, happens, row, begun, place}
+use Rattle.work.specs.declared.event.Event.the-variants.{Tick, Hold, Go, Knob}
+use Rattle.work.specs.Works.{todo, toward, does, happens, row, begun, after, place}
 use Rattle.work.specs.Promises.{Promise}
 use Rattle.work.specs.Ranges.{Small, Near-line, Near, Slow, Ready}
 use Rattle.work.proofs.Promise.{of-safe}
@@ -57,13 +58,39 @@ ready-prop m w (Some t) a b = λ i. record {
 safe : (m : Machine) (ts : List Target) (w : Work) → fit m ≡ true → Reached m ts w → Safe m origin ts (w .motion)
 safe m ts w f r = subst (λ (v : Work). Safe m origin ts (v .motion)) (sym (r .is)) (safe-after m origin ts (bounds.range m f .0) (r .events))
 
-promise-of : (m : Machine) (ts : List Target) (w : Work) → fit m ≡ true → Reached m ts w → Promise m origin ts w
+pub promise-of : (m : Machine) (ts : List Target) (w : Work) → fit m ≡ true → Reached m ts w → Promise m origin ts w
 promise-of m ts w f r = of-safe m origin ts w (bounds.range m f .0) (safe m ts w f r)
 
 -- an event more
 pub reached-on : (m : Machine) (ts : List Target) (w v : Work) (e : Event) → ∥ Reached m ts w ∥₁ → v ≡ happens m ts e w → ∥ Reached m ts v ∥₁
 unfolding row
 reached-on m ts w v e r h = ∥∥₁-map r (λ k. record { events = e ∷ k .events; is = h ∙ ap (happens m ts e) (k .is) })
+
+-- along more targets an event does the same, but for a tick where none was left: that one changed nothing
+one-more : (m : Machine) (ts us : List Target) (e : Event) (w : Work) → w .motion .behind ≤ length ts
+    → (happens m ts e w ≡ w) ⊎ (happens m ts e w ≡ happens m (ts ++ us) e w)
+unfolding toward
+one-more m ts us Hold w h = inr refl
+one-more m ts us Go w h = inr refl
+one-more m ts us (Knob n) w h = inr refl
+one-more m ts us Tick w h = by (todo ts (w .motion)) refl
+  where
+    by : (xs : List Target) → todo ts (w .motion) ≡ xs → (happens m ts Tick w ≡ w) ⊎ (happens m ts Tick w ≡ happens m (ts ++ us) Tick w)
+    by [] i = inl (ap (λ (xs : List Target). does m xs Tick w) i)
+    by (t ∷ xs) i = inr (
+        ap (λ (ys : List Target). does m ys Tick w) i
+        ∙ sym (ap (λ (ys : List Target). does m ys Tick w) (drop-append-le (w .motion .behind) ts us h ∙ ap (λ (ys : List Target). ys ++ us) i)))
+
+more-row : (m : Machine) (ts us : List Target) → 1 ≤ m .change → (es : List Event) → Reached m (ts ++ us) (after m ts origin es)
+unfolding row
+more-row m ts us f [] = record { events = []; is = refl }
+more-row m ts us f (e ∷ es) =
+    let k = more-row m ts us f es in
+    ⊎-elim (λ h. record { events = k .events; is = h ∙ k .is }) (λ h. record { events = e ∷ k .events; is = h ∙ ap (happens m (ts ++ us) e) (k .is) })
+    (one-more m ts us e (after m ts origin es) (safe-after m origin ts f es .few))
+
+pub reached-more : (m : Machine) (ts us : List Target) (w : Work) → fit m ≡ true → ∥ Reached m ts w ∥₁ → ∥ Reached m (ts ++ us) w ∥₁
+reached-more m ts us w f r = ∥∥₁-map r (λ k. subst (Reached m (ts ++ us)) (sym (k .is)) (more-row m ts us (bounds.range m f .0) (k .events)))
 
 -- the beginning, and a machine that passed its checks
 pub reached-first : (m : Machine) (ts : List Target) (w : Work) → w ≡ begun origin → ∥ Reached m ts w ∥₁
@@ -121,3 +148,13 @@ module _ (c : Control) where
   pub gives : (v : Work) (p q : Place) (d : Pulses) → v ≡ happens (c .machine) ts Tick (c .work) → p ≡ place ts (c .work .motion)
       → q ≡ place ts (v .motion) → d ≡ between p q → d ≡ pulses (c .machine) ts Tick (c .work)
   gives v p q d h i j k = k ∙ rw (i, j, h)
+
+  -- a target more, or none for want of memory
+  pub pushed : (t : Target) (b : Bool) (us : List Target) → within 1000000000 (t .to) ≡ true → us ≡ cond b (ts ++ t ∷ []) ts
+      → (fit (c .machine) ≡ true) × ((near us ≡ true) × (∥ Reached (c .machine) us (c .work) ∥₁ × Unit {0}))
+  pushed t true us k e = rw e (c .fits, (bounds.near-push ts t (c .close) k, (reached-more (c .machine) ts (t ∷ []) (c .work) (c .fits) (c .reached), tt)))
+  pushed t false us k e = rw e (c .fits, (c .close, (c .reached, tt)))
+
+  pub pushed-promise : (t : Target) (b : Bool) (us : List Target) → within 1000000000 (t .to) ≡ true → us ≡ cond b (ts ++ t ∷ []) ts
+      → ∥ Promise (c .machine) origin us (c .work) ∥₁
+  pushed-promise t b us k e = ∥∥₁-map (pushed t b us k e .1 .1 .0) (λ r. promise-of (c .machine) us (c .work) (c .fits) r)

@@ -7,10 +7,11 @@
 --   head-of xs       the first of a list
 --   Reached m ts w   some row of events leads from the beginning to w
 --   Happened         what an event leaves of a control
+--   Added            what an added target leaves of a control
 --   Few              how many pulses a tick gives at the most
 use mathlib.Core.Path.{_≡_}
 use mathlib.Core.Bool.{Bool, true, false, cond, _&&_}
-use mathlib.Core.List.{List, [], _∷_}
+use mathlib.Core.List.{List, [], _∷_, _++_}
 use Prim.Native.Nat.{ℕ, _≤_, max}
 use lib.Dec.{leb}
 use lib.IntN.{pos, natAbs}
@@ -29,6 +30,8 @@ use Rattle.work.specs.declared.event.Event.{Event}
 use Rattle.work.specs.Works.{todo, happens, after}
 use Rattle.work.specs.Promises.{Promise, cap-now}
 use Rattle.pulses.specs.declared.Pulses.{Pulses}
+use Rattle.control.specs.declared.fault.AddError.{AddError}
+use Rattle.control.specs.declared.fault.AddError.the-variants.{Refused, Memory}
 
 abbrev pub in-range : ℕ → Bool
 in-range n = leb 1 n && leb n 1000000
@@ -72,3 +75,9 @@ pub record Happened (m : Machine) (ts : List Target) (w : Work) (e : Event) (n :
 pub record Few (m : Machine) (ts : List Target) (w : Work) (d : Pulses) : Type 0 where
   pub across : natAbs (d .x) ≤ max (cap-now m (w .panel) (todo ts (w .motion))) (w .motion .speed)
   pub along : natAbs (d .y) ≤ max (cap-now m (w .panel) (todo ts (w .motion))) (w .motion .speed)
+
+-- a target put behind the others: taken, refused because it lies too far, or not for want of memory; then nothing changes
+abbrev pub Added : Target → Result (Unit {0}) AddError → Machine → List Target → Work → Machine → List Target → Work → Type 0
+Added t (Ok u) m ts w n us v = (within 1000000000 (t .to) ≡ true) × (n ≡ m) × (us ≡ ts ++ t ∷ []) × (v ≡ w) × ∥ Promise m origin us v ∥₁
+Added t (Err (Refused e)) m ts w n us v = (within 1000000000 (t .to) ≡ false) × (e ≡ Lent 1) × (n ≡ m) × (us ≡ ts) × (v ≡ w)
+Added t (Err Memory) m ts w n us v = (n ≡ m) × (us ≡ ts) × (v ≡ w)

@@ -2,13 +2,17 @@
 // some row of events leads to from the beginning.
 ghost use mathlib.Core.Bool.{true};
 ghost use mathlib.Core.Path.{_≡_};
-ghost use Rattle.control.specs.Controls.{fit, near, origin, head-of, load-of, Reached, Happened, Few};
+ghost use lib.Dec.{leb};
+ghost use lib.ListN.{length};
+ghost use Rattle.control.specs.Controls.{fit, near, origin, head-of, load-of, Reached, Happened, Added, Few};
 ghost use Rattle.pulses.specs.Motors.{pulses};
 ghost use Rattle.std.specs.Of.Vec.{vec-items};
 ghost use Rattle.std.specs.Results.{Cases};
 ghost use Rattle.std.specs.declared.result.Result.the-variants.{Ok, Err};
 ghost use Rattle.work.specs.Works.{todo, begun, place};
 ghost use Rattle.work.specs.declared.event.Event.the-variants.{Tick, Hold, Go, Knob};
+use crate::fault::AddError;
+use crate::fault::AddErrorFromRefused;
 use crate::machines::machine;
 use geometry::Place;
 use program::Target;
@@ -76,6 +80,24 @@ impl Control {
         ensures { λ _. ⌜ Happened (now (self .entry) .machine) (vec-items (now (self .entry) .targets)) (now (self .entry) .work) (Knob percent) (now (self .exit) .machine) (vec-items (now (self .exit) .targets)) (now (self .exit) .work) ⌝ }
     {
         self.work = self.work.knob(percent);
+    }
+
+    // One target more, behind the others.
+    pub fn add(&mut self, target: Target) -> Result<(), AddError>
+        ensures { λ r. ⌜ Added target r (now (self .entry) .machine) (vec-items (now (self .entry) .targets)) (now (self .entry) .work) (now (self .exit) .machine) (vec-items (now (self .exit) .targets)) (now (self .exit) .work) ⌝ }
+    {
+        if !target.to.is_within(REACH) {
+            return Err(AddError::Refused(Refusal::Lent(1)));
+        }
+        self.targets.push(target)?;
+        Ok(())
+    }
+
+    // Whether no target is left.
+    pub fn is_done(&self) -> bool
+        ensures { λ r. ⌜ r ≡ leb (length (vec-items (now (self .entry) .targets))) (now (self .entry) .work .motion .behind) ⌝ }
+    {
+        self.targets.len() <= self.work.motion.behind
     }
 
     // The target that it is on the way to, if any is left.
