@@ -1,0 +1,3 @@
+pub mod Checks
+pub mod Ranges
+pub mod Threes
