@@ -39,7 +39,7 @@ within-test : (n : ℕ) (p : Place) → Within n p → within n p ≡ true
 within-test n p h = grind (arith, tells)
 
 -- the two parts of a test that passed
-both : (a b : Bool) → (a && b) ≡ true → (a ≡ true) × (b ≡ true)
+pub both : (a b : Bool) → (a && b) ≡ true → (a ≡ true) × (b ≡ true)
 both true b e = (refl, e)
 both false b e = (e, let z : _≡_ {A = ℕ} 0 1 = cc in absurd (omega arith))
 
@@ -103,6 +103,13 @@ module _ (m : Machine) (ts : List Target) (w : Motion) (f : fit m ≡ true) (h :
       let n : Within 1000000000 (t .to) = near-in ts (w .behind) t us h e in
       let l : long (w .from) (t .to) ≤ 2 * 1000000000 = long-within 1000000000 (w .from) (t .to) from-near n in
       (record { begins = from-near; ends = n; short = omega arith }, omega (arith, slows (m .change) (w .speed) (range m f .0), range m f .1))
+
+  pub steps-near : w .done ≤ 2000000000
+  steps-near = by (todo ts w) refl
+    where
+      by : (xs : List Target) → todo ts w ≡ xs → w .done ≤ 2000000000
+      by [] i = let c : Can-stop (m .change) w [] = rw i at (s .stop) in omega (arith, c .0)
+      by (t ∷ us) i = on-the-way t us i .0 .short
 
   pub near-next : (next : Option Target) → next ≡ head-of (todo ts w) → Near w next
   near-next next e = subst (Near w) (sym e) (by (todo ts w) refl)

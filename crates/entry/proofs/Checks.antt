@@ -13,16 +13,13 @@ use Rattle.std.specs.declared.option.Option.{Option}
 use Rattle.std.specs.declared.option.Option.the-variants.{Some, None}
 use Rattle.refusal.specs.declared.Refusal.{Refusal}
 use Rattle.geometry.specs.Places.{within, Within}
+use Rattle.control.proofs.Bounds.{both}
 use Rattle.control.specs.Controls.{in-range, near}
 use Rattle.entry.specs.Entries.{size, nth, targets-in, work-in, all-within, sound, refusal-of, In-range}
 
 passed-one : (b : Bool) (x : Option Refusal) (r : Refusal) → None ≡ cond b x (Some r) → (b ≡ true) × (None ≡ x)
 passed-one true x r e = (refl, e)
 passed-one false x r e = let z : _≡_ {A = ℕ} 0 1 = cc in absurd (omega arith)
-
-both : (a b : Bool) → (a && b) ≡ true → (a ≡ true) × (b ≡ true)
-both true b e = (refl, e)
-both false b e = let z : _≡_ {A = ℕ} 0 1 = cc in absurd (omega arith)
 
 small-at : (m : ℕ) (xs : List ℤ) (i : ℕ) → all-within m xs ≡ true → natAbs (nth xs i) ≤ m
 unfolding all-within

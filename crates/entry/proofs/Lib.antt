@@ -1,3 +1,4 @@
+pub mod Agreement
 pub mod Checks
 pub mod Ranges
 pub mod Threes
