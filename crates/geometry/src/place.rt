@@ -1,6 +1,6 @@
 // A place in steps, an axis each.
 ghost use mathlib.Core.Path.{_≡_};
-ghost use Rattle.geometry.specs.Places.{within};
+ghost use Rattle.geometry.specs.Places.{moved, within, Within};
 
 #[derive(Clone, Copy, PartialEq, Eq, Debug)]
 pub struct Place {
@@ -16,5 +16,16 @@ impl Place {
         ensures { λ r. ⌜ r ≡ within n self ⌝ }
     {
         self.x.unsigned_abs() <= n && self.y.unsigned_abs() <= n
+    }
+
+    // This place, seen from outside a frame whose 0, 0 lies at d.
+    pub fn moved(self, d: Place) -> Place
+        requires { ⌜ Within 4000000000 self ⌝ ∗ ⌜ Within 4000000000 d ⌝ }
+        ensures { λ r. ⌜ r ≡ moved d self ⌝ }
+    {
+        Place {
+            x: self.x + d.x,
+            y: self.y + d.y,
+        }
     }
 }

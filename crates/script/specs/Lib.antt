@@ -1,0 +1,4 @@
+pub mod Words
+pub mod Orders
+pub mod Scripts
+pub mod Refusals

@@ -1,0 +1,95 @@
+-- What the contract of reading a script cites: what its lines say, and which of its numbers is out of its limits. Assumes nothing.
+--   Told                  what a script says: a machine, and orders
+--   by-words ws a f       a for a blank line, else f of its first word and the others
+--   or-line o n f         f of the value in o; the line n can't be read where there is none
+--   orders-from n os ls   the orders os, with those of the lines ls behind them, of which the first is line n
+--   told-by m os          the script of a machine and its orders
+--   script-from e n ls    the script of such lines, the first with a word being the machine's; line e where none has
+--   reads bs              what a script says, or the line that can't be read
+--   unfit t               the first number out of its limits: the change, the top speed, a place, the knob
+use mathlib.Core.Path.{_≡_}
+use mathlib.Core.Bool.{Bool, cond, _&&_}
+use mathlib.Core.List.{List, [], _∷_, _++_}
+use Prim.Native.Nat.{ℕ, _+_}
+use lib.Dec.{leb}
+use Rattle.std.specs.Of.Vec.{vec-items}
+use Rattle.std.specs.declared.option.Option.{Option}
+use Rattle.std.specs.declared.option.Option.the-variants.{Some, None}
+use Rattle.std.specs.declared.result.Result.{Result}
+use Rattle.std.specs.declared.result.Result.the-variants.{Ok, Err}
+use Rattle.geometry.specs.Places.{within}
+use Rattle.script.specs.declared.script.Order.{Order}
+use Rattle.script.specs.declared.script.Order.the-variants.{To, Tick, Hold, Go, Knob, Where}
+use Rattle.script.specs.declared.fault.Fault.{Fault}
+use Rattle.script.specs.declared.fault.Fault.the-variants as fault
+use Rattle.script.specs.Words.{words, lines, feeds}
+use Rattle.script.specs.Orders.{order-of, machine-of}
+
+pub record Told : Type 0 where
+  pub change : ℕ
+  pub top : ℕ
+  pub orders : List Order
+
+abbrev pub by-words : {A : Type 0} → List (List ℕ) → A → (List ℕ → List (List ℕ) → A) → A
+by-words [] a f = a
+by-words (k ∷ ws) a f = f k ws
+
+abbrev pub or-line : {A B : Type 0} → Option A → ℕ → (A → Result B ℕ) → Result B ℕ
+or-line None n f = Err n
+or-line (Some a) n f = f a
+
+unfoldable pub orders-from : ℕ → List Order → List (List ℕ) → Result (List Order) ℕ
+orders-from n os [] = Ok os
+orders-from n os (l ∷ ls) =
+    by-words (words l) (orders-from (n + 1) os ls)
+    (λ k ws. or-line (order-of k ws) n (λ o. orders-from (n + 1) (os ++ o ∷ []) ls))
+
+abbrev pub told-by : ℕ × ℕ → Result (List Order) ℕ → Result Told ℕ
+told-by m (Ok os) = Ok (record { change = m .0; top = m .1; orders = os })
+told-by m (Err n) = Err n
+
+unfoldable pub script-from : ℕ → ℕ → List (List ℕ) → Result Told ℕ
+script-from e n [] = Err e
+script-from e n (l ∷ ls) =
+    by-words (words l) (script-from e (n + 1) ls)
+    (λ k ws. or-line (machine-of k ws) n (λ m. told-by m (orders-from (n + 1) [] ls)))
+
+abbrev pub reads : List ℕ → Result Told ℕ
+reads bs = script-from (feeds bs) 0 (lines bs)
+
+-- a fault, or else the next one
+abbrev pub or-else : Option Fault → Option Fault → Option Fault
+or-else None b = b
+or-else (Some a) b = Some a
+
+abbrev pub unless : Bool → Fault → Option Fault
+unless b f = cond b None (Some f)
+
+abbrev pub far : Order → Option Fault
+far (To t) = unless (within 1000000000 (t .to)) (fault.Far (t .to))
+far (Tick n) = None
+far Hold = None
+far Go = None
+far (Knob n) = None
+far Where = None
+
+abbrev pub beyond : Order → Option Fault
+beyond (To t) = None
+beyond (Tick n) = None
+beyond Hold = None
+beyond Go = None
+beyond (Knob n) = unless (leb n 1000) (fault.Knob n)
+beyond Where = None
+
+unfoldable pub first : (Order → Option Fault) → List Order → Option Fault
+first f [] = None
+first f (o ∷ os) = or-else (f o) (first f os)
+
+abbrev pub in-limits : ℕ → Bool
+in-limits n = leb 1 n && leb n 1000000
+
+abbrev pub unfit : Told → Option Fault
+unfit t =
+    or-else (unless (in-limits (t .change)) (fault.Change (t .change)))
+    (or-else (unless (in-limits (t .top)) (fault.Top (t .top)))
+    (or-else (first far (t .orders)) (first beyond (t .orders))))
