@@ -1,0 +1,58 @@
+-- One tick more: the work, and the lines put.
+use mathlib.Core.Path.{_≡_, refl, sym, _∙_, ap}
+use mathlib.Core.List.{List, [], _∷_, _++_, append-assoc, append-nil}
+use Prim.Native.Nat.{ℕ, zero, suc, _+_, _-_, _≤_, _<_}
+use native.Mathlib.Omega.{arith}
+use lib.ListN.{length}
+use Rattle.program.specs.declared.target.Target.{Target}
+use Rattle.work.specs.declared.machine.Machine.{Machine}
+use Rattle.work.specs.declared.work.Work.{Work}
+use Rattle.work.specs.declared.event.Event.the-variants.{Tick}
+use Rattle.work.specs.Works.{happens, row, ticks}
+use Rattle.work.proofs.Arrival.{tick-first}
+use Rattle.pulses.specs.declared.Pulses.{Pulses}
+use Rattle.pulses.specs.Motors.{pulses}
+use Rattle.decimal.specs.Lines.{pulses-line}
+use Rattle.player.specs.Plays.{ticked}
+
+-- the last tick's line stands last
+ticked-last : (m : Machine) (ts : List Target) (n : ℕ) (w : Work) → ticked m ts (suc n) w ≡ ticked m ts n w ++ pulses-line (pulses m ts Tick (row m ts (ticks n) w))
+unfolding ticked row ticks
+ticked-last m ts zero w = append-nil (pulses-line (pulses m ts Tick w))
+ticked-last m ts (suc n) w =
+    ap (λ (xs : List ℕ). pulses-line (pulses m ts Tick w) ++ xs) (ticked-last m ts n (happens m ts Tick w))
+    ∙ sym (append-assoc (pulses-line (pulses m ts Tick w)) (ticked m ts n (happens m ts Tick w)) _)
+    ∙ ap (λ (v : Work). (pulses-line (pulses m ts Tick w) ++ ticked m ts n (happens m ts Tick w)) ++ pulses-line (pulses m ts Tick v)) (sym (tick-first m ts n w))
+
+-- what holds between two ticks, after k of them
+pub record Made (m : Machine) (ts : List Target) (w : Work) (out : List ℕ) (k : ℕ) (v : Work) (lines : List ℕ) : Type 0 where
+  pub work : v ≡ row m ts (ticks k) w
+  pub put : lines ≡ out ++ ticked m ts k w
+
+pub none : (m : Machine) (ts : List Target) (w : Work) (out : List ℕ) → Made m ts w out 0 w out
+unfolding row ticks ticked
+none m ts w out = record { work = refl; put = sym (append-nil out) }
+
+one-more : (m : Machine) (ts : List Target) (w : Work) (out : List ℕ) (k : ℕ) (v u : Work) (lines more : List ℕ) → Made m ts w out k v lines
+    → u ≡ happens m ts Tick v → more ≡ lines ++ pulses-line (pulses m ts Tick v) → Made m ts w out (suc k) u more
+unfolding row ticks
+one-more m ts w out k v u lines more h e f = record {
+  work = e ∙ ap (happens m ts Tick) (h .work);
+  put =
+      f ∙ ap (λ (xs : List ℕ). xs ++ pulses-line (pulses m ts Tick v)) (h .put) ∙ append-assoc out (ticked m ts k w) _
+      ∙ ap (λ (x : Work). out ++ (ticked m ts k w ++ pulses-line (pulses m ts Tick x))) (h .work)
+      ∙ ap (λ (xs : List ℕ). out ++ xs) (sym (ticked-last m ts k w));
+}
+
+-- the same, as a tick of a control gives it
+pub another : (m m1 : Machine) (ts ts1 : List Target) (w : Work) (out : List ℕ) (k : ℕ) (v u : Work) (lines more : List ℕ) (d : Pulses)
+    → m1 ≡ m → ts1 ≡ ts → Made m ts w out k v lines → u ≡ happens m1 ts1 Tick v → d ≡ pulses m1 ts1 Tick v → more ≡ lines ++ pulses-line d
+    → Made m ts w out (suc k) u more
+another m m1 ts ts1 w out k v u lines more d a b h e f g =
+    let p : d ≡ pulses m ts Tick v = f ∙ rw (a, b) in
+    one-more m ts w out k v u lines more h (e ∙ rw (a, b)) (g ∙ ap (λ (x : Pulses). lines ++ pulses-line x) p)
+
+-- with no tick made there are no lines
+pub same-lines : (m : Machine) (ts : List Target) (w : Work) (out : List ℕ) (k : ℕ) (v : Work) (lines : List ℕ) → Made m ts w out k v lines → k ≡ 0 → length lines ≡ length out
+unfolding ticked
+same-lines m ts w out k v lines h e = ap length (h .put ∙ ap (λ (n : ℕ). out ++ ticked m ts n w) e ∙ append-nil out)

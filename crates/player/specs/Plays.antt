@@ -1,0 +1,28 @@
+-- What the contracts of the player cite. Assumes nothing.
+--   ticked m ts n w   the lines that n ticks print, from the work w on
+--   Ran               what a run of up to n ticks leaves, with so many left to make
+use mathlib.Core.Path.{_≡_}
+use mathlib.Core.List.{List, [], _++_}
+use Prim.Native.Nat.{ℕ, zero, suc, _-_, _≤_, _<_}
+use lib.ListN.{length}
+use Rattle.program.specs.declared.target.Target.{Target}
+use Rattle.work.specs.declared.machine.Machine.{Machine}
+use Rattle.work.specs.declared.work.Work.{Work}
+use Rattle.work.specs.declared.event.Event.the-variants.{Tick}
+use Rattle.work.specs.Works.{happens, row, ticks}
+use Rattle.pulses.specs.Motors.{pulses}
+use Rattle.decimal.specs.Lines.{pulses-line}
+
+unfoldable pub ticked : Machine → List Target → ℕ → Work → List ℕ
+ticked m ts zero w = []
+ticked m ts (suc n) w = pulses-line (pulses m ts Tick w) ++ ticked m ts n (happens m ts Tick w)
+
+pub record Ran (full n left : ℕ) (m : Machine) (ts : List Target) (w : Work) (out : List ℕ) (m1 : Machine) (ts1 : List Target) (w1 : Work) (out1 : List ℕ) : Type 0 where
+  pub some : left ≤ n
+  pub machine : m1 ≡ m
+  pub targets : ts1 ≡ ts
+  -- so many ticks were made, and each one's pulses were put
+  pub work : w1 ≡ row m ts (ticks (n - left)) w
+  pub lines : out1 ≡ out ++ ticked m ts (n - left) w
+  -- it gets on, unless the lines were too many before
+  pub onward : length out < full → 1 ≤ n → left < n
