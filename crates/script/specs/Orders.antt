@@ -9,7 +9,7 @@
 --   plain-of k ws    the same, with no words behind it
 --   order-of k ws    the order of a line whose first word is k
 --   machine-of k ws  the machine of such a line: by how much its speed may change, and the highest
-use mathlib.Core.Bool.{Bool, cond}
+use mathlib.Core.Bool.{cond}
 use mathlib.Core.List.{List, [], _∷_}
 use Prim.Native.Nat.{ℕ}
 use lib.Chars.{codes}

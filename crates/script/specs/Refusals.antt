@@ -2,7 +2,9 @@
 --   refusal e      the refusal of an error: none for want of memory
 --   told s         what a script that was read says
 --   Goes os r      r is the orders os, the line that can't be read, or the want of memory
---   Begins bs r    r is how the script bs begins, or the line that can't be read
+--   Begins-so bs b b is how the script bs begins: a machine, and lines behind its own that can be counted
+--   Begins bs r    r is that, or the line that can't be read
+--   Unfit s f      f is the first number out of its limits of a script that says s
 --   Answers s r    r is what reading a script comes to that says s: the script, the line that can't be read, the first
 --                  number out of its limits, or the want of memory
 use mathlib.Core.Path.{_≡_}
@@ -45,7 +47,6 @@ Goes os (Err (Text line wrong)) = os ≡ Err line
 Goes os (Err (Number f)) = ⊥
 Goes os (Err Memory) = Unit {0}
 
--- what the script says rests on the lines behind the machine's, which can be counted
 pub record Begins-so (bs : List ℕ) (b : Begun) : Type 0 where
   pub says : reads bs ≡ told-by (b .change, b .top) (orders-from (b .line) [] (lines (b .rest .now)))
   pub counts : b .line + length (b .rest .now) < 2 ^ 64

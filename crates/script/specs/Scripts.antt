@@ -6,13 +6,16 @@
 --   told-by m os          the script of a machine and its orders
 --   script-from e n ls    the script of such lines, the first with a word being the machine's; line e where none has
 --   reads bs              what a script says, or the line that can't be read
+--   or-else a b           the fault a, or b where there is none
+--   unless b f            the fault f where b does not hold
+--   far o, beyond o       the fault of an order: a target past 10^9 on an axis, a knob above 1,000
+--   first f os            the first fault that f finds in the orders os
+--   in-limits n           whether a change or a top speed is from 1 to 1,000,000
 --   unfit t               the first number out of its limits: the change, the top speed, a place, the knob
-use mathlib.Core.Path.{_≡_}
 use mathlib.Core.Bool.{Bool, cond, _&&_}
 use mathlib.Core.List.{List, [], _∷_, _++_}
 use Prim.Native.Nat.{ℕ, _+_}
 use lib.Dec.{leb}
-use Rattle.std.specs.Of.Vec.{vec-items}
 use Rattle.std.specs.declared.option.Option.{Option}
 use Rattle.std.specs.declared.option.Option.the-variants.{Some, None}
 use Rattle.std.specs.declared.result.Result.{Result}
@@ -57,7 +60,6 @@ script-from e n (l ∷ ls) =
 abbrev pub reads : List ℕ → Result Told ℕ
 reads bs = script-from (feeds bs) 0 (lines bs)
 
--- a fault, or else the next one
 abbrev pub or-else : Option Fault → Option Fault → Option Fault
 or-else None b = b
 or-else (Some a) b = Some a

@@ -1,11 +1,10 @@
 // A script, line by line, and then its numbers.
 ghost use mathlib.Core.Path.{_≡_};
-ghost use Prim.Native.Nat.{_+_, _≤_, _<_, _^_};
 ghost use mathlib.Core.List.{[]};
+ghost use Prim.Native.Nat.{_+_, _<_, _^_};
 ghost use lib.ListN.{length};
-ghost use Rattle.std.specs.Of.Vec.{vec-items};
-ghost use Rattle.script.specs.Words.{lines, feeds};
-ghost use Rattle.script.specs.Scripts.{reads, script-from, orders-from, first, far, beyond, in-limits, unfit};
+ghost use Rattle.script.specs.Words.{lines};
+ghost use Rattle.script.specs.Scripts.{reads, orders-from, first, far, beyond, in-limits, unfit};
 ghost use Rattle.script.specs.Refusals.{Answers, Begins, Goes, told};
 use crate::fault::Expected;
 use crate::fault::Fault;

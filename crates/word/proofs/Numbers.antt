@@ -1,25 +1,20 @@
 -- What a word's number is: its sign, and digits one by one. Assumes nothing.
-use mathlib.Core.Path.{_≡_, refl, sym, ap, subst, _∙_}
-use mathlib.Core.Bool.{Bool, true, false, cond, _&&_}
-use mathlib.Core.List.{List, [], _∷_, _++_}
-use mathlib.Core.Logic.{_⊎_, inl, inr}
-use Prim.Native.Nat.{ℕ, zero, suc, _+_, _-_, _*_, _^_, _<_, _≤_, min}
+use mathlib.Core.Path.{_≡_}
+use mathlib.Core.Bool.{true}
+use mathlib.Core.List.{List, [], _∷_}
+use mathlib.Core.Logic.{inl, inr}
+use Prim.Native.Nat.{ℕ, _-_, _^_, _<_, _≤_, min}
 use native.Mathlib.Omega.{arith}
-use lib.Dec.{eqb}
-use lib.IntN.{ℤ}
 use lib.ListN.{length, getD, take, drop}
-use borrow.Author.Needs.{needs}
 use Rattle.std.specs.Reads.{value, Digits}
 use Rattle.std.specs.Text.{In, digitValue}
 use Rattle.std.specs.shelf.Text.{allDigits}
-use Rattle.std.specs.declared.option.Option.{Option}
 use Rattle.std.specs.declared.option.Option.the-variants.{Some, None}
-use Rattle.std.proofs.shelf.Digits.{value-more, digits-more}
-use Rattle.std.proofs.shelf.Lists.{take-all, take-rest, drop-more}
+use Rattle.std.proofs.shelf.Lists.{take-all}
 use Rattle.std.proofs.shelf.Numerals.{Numerals, numerals-by-value, tells-allDigits, digit-at}
 use Rattle.std.proofs.shelf.Tests.{cases-bool, eq-eqb}
 use Rattle.std.proofs.shelf.Ways.{tells}
-use Rattle.word.specs.Numbers.{magnitude, mapped, number-of, up, down}
+use Rattle.word.specs.Numbers.{magnitude, mapped, number-of, down}
 
 -- digits, by a test
 own : Numerals (λ ds. allDigits ds ≡ true) (value 10)

@@ -1,5 +1,4 @@
 use mathlib.Core.Path.{_≡_}
-use mathlib.Core.Bool.{true}
 use Prim.Native.Nat.{_-_, _^_, min}
 use lib.ListN.{take}
 use Rattle.std.specs.Reads.{value, Digits}

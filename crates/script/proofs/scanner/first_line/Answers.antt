@@ -1,11 +1,9 @@
-use mathlib.Core.Path.{_≡_, sym, ap, _∙_}
-use mathlib.Core.List.{_∷_}
+use mathlib.Core.Path.{_≡_, sym, _∙_}
 use Prim.Native.Nat.{_+_, _<_}
 use native.Mathlib.Omega.{arith}
-use lib.ListN.{length, getD, take, drop}
+use lib.ListN.{length, getD}
 use Rattle.std.proofs.shelf.Lists.{take-rest, length-drop}
 use Rattle.std.proofs.shelf.Tests.{eq-eqb, ne-eqb}
-use Rattle.script.specs.Words.{lines}
 use Rattle.script.proofs.Scans.{lines-letter, lines-stop, lines-end}
 use Rattle.script.proofs.scanner.first_line.Needs as need
 

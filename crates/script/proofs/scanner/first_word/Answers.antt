@@ -1,6 +1,3 @@
-use mathlib.Core.Path.{_≡_, sym, ap, _∙_}
-use native.Mathlib.Omega.{arith}
-use Rattle.script.specs.Words.{row, words}
 use Rattle.script.proofs.Scans.{word-row}
 use Rattle.script.proofs.scanner.first_word.Needs as need
 
