@@ -1,3 +1,4 @@
 pub mod Works
 pub mod Ranges
 pub mod Promises
+pub mod Worked
