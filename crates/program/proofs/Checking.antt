@@ -2,8 +2,8 @@
 use mathlib.Core.Path.{_≡_, refl, sym, ap, _∙_, subst}
 use mathlib.Core.Bool.{Bool, true, false, _&&_, cond}
 use mathlib.Core.List.{List, [], _∷_}
-use mathlib.Core.Logic.{_⊎_, inl, inr}
-use Prim.Native.Nat.{ℕ, zero, suc, _+_, _*_, _-_, _/_, _%_, _^_, _≤_, _<_, min}
+use mathlib.Core.Logic.{inl, inr}
+use Prim.Native.Nat.{ℕ, zero, suc, _+_, _*_, _-_, _%_, _^_, _≤_, _<_, min}
 use native.Mathlib.Numerals.{add-one}
 use native.Mathlib.Omega.{arith}
 use lib.Dec.{leb, eqb}
@@ -19,16 +19,16 @@ use Rattle.std.specs.declared.option.Option.the-variants.{Some, None}
 use Rattle.std.specs.declared.result.Result.the-variants.{Ok}
 use Rattle.geometry.proofs.Acts.{same-place}
 use Rattle.geometry.specs.Frames.{put, seen}
-use Rattle.geometry.specs.Places.{Within}
 use Rattle.geometry.specs.declared.frame.Frame.{Frame}
 use Rattle.geometry.specs.declared.place.Place.{Place}
+use Rattle.refusal.specs.declared.Refusal.{Refusal}
 use Rattle.refusal.specs.declared.Refusal.the-variants.{Room, Reach}
 use Rattle.program.proofs.Meanings.{framed-same, says-count}
 use Rattle.program.proofs.Naming.{staged}
 use Rattle.program.specs.Answers.{first-in, first-of, names-below, reached, refusal-of, said, small, well-named, well-shaped}
 use Rattle.program.specs.Nodes.{size, number, nodes, node-in, whole}
 use Rattle.program.specs.Programs.{Program, Went, went, count}
-use Rattle.program.specs.Walks.{meant, went-in, Sound, Counts, Ready, Whole, Ran}
+use Rattle.program.specs.Walks.{meant, went-in, Sound, Counts, Passed, Ready, Whole, Ran}
 use Rattle.program.specs.Rooms.{over}
 use Rattle.program.specs.declared.state.State.{State}
 use Rattle.program.specs.declared.target.Target.{Target}
@@ -95,17 +95,33 @@ small-all xs e k =
       | inr l ↦ rw (getD-past xs k (pos 0) l) (omega arith)
     ]
 
-pub sound-from : (xs : List ℤ) → well-shaped xs ≡ true → first-in small 0 xs ≡ None → first-of (well-named xs) 0 (nodes xs) ≡ None → Sound xs
-sound-from xs a b c =
-    let p = and-parts (eqb (length xs) (4 * nodes xs)) (leb 1 (nodes xs) && leb (nodes xs) 1024) a in
+-- the first three checks are passed
+pub record Three (xs : List ℤ) : Type 0 where
+  pub shape : well-shaped xs ≡ true
+  pub numbers : first-in small 0 xs ≡ None
+  pub names : first-of (well-named xs) 0 (nodes xs) ≡ None
+
+pub three-from : (xs : List ℤ) → length xs % 4 ≡ 0 → 1 ≤ length xs → length xs ≤ 4096 → None ≡ first-in small 0 xs →
+    None ≡ first-of (well-named xs) 0 (nodes xs) → Three xs
+three-from xs a b c numbers names = record {
+  shape = and-from (eqb (length xs) (4 * nodes xs)) (leb 1 (nodes xs) && leb (nodes xs) 1024)
+      (eq-eqb (length xs) (4 * nodes xs) (omega arith))
+      (and-from (leb 1 (nodes xs)) (leb (nodes xs) 1024) (le-leb 1 (nodes xs) (omega arith)) (le-leb (nodes xs) 1024 (omega arith)));
+  numbers = sym numbers;
+  names = sym names;
+}
+
+pub sound-from : (xs : List ℤ) → Three xs → Sound xs
+sound-from xs t =
+    let p = and-parts (eqb (length xs) (4 * nodes xs)) (leb 1 (nodes xs) && leb (nodes xs) 1024) (t .shape) in
     let q = and-parts (leb 1 (nodes xs)) (leb (nodes xs) 1024) (p .1) in
     record {
       shaped = eqb-true _ _ (p .0);
       some = leb-true _ _ (q .0);
       few = leb-true _ _ (q .1);
-      small = small-all xs b;
+      small = small-all xs (t .numbers);
       named = λ n l. and-parts (leb (size (number xs n 0)) 8) (names-below n (node-in xs n))
-          (all-of (well-named xs) 0 (nodes xs) c n (omega arith) (omega arith)) .1;
+          (all-of (well-named xs) 0 (nodes xs) (t .names) n (omega arith) (omega arith)) .1;
     }
 
 abbrev pub origin : Place
@@ -147,23 +163,37 @@ start-ready xs cs width space s c fits roomy =
       fits = omega arith;
     }
 
-pub shaped-from : (xs : List ℤ) → length xs % 4 ≡ 0 → 1 ≤ length xs → length xs ≤ 4096 → well-shaped xs ≡ true
-shaped-from xs a b c =
-    and-from (eqb (length xs) (4 * nodes xs)) (leb 1 (nodes xs) && leb (nodes xs) 1024)
-    (eq-eqb (length xs) (4 * nodes xs) (omega arith))
-    (and-from (leb 1 (nodes xs)) (leb (nodes xs) 1024) (le-leb 1 (nodes xs) (omega arith)) (le-leb (nodes xs) 1024 (omega arith)))
+-- what is left to refuse, with the counts of all nodes
+module _ (xs : List ℤ) (most : ℕ) (cs : List ℕ) (three : Three xs) (counts : Counts xs cs (nodes xs)) (fits : most < 2 ^ 64 - 1) where
+  targets : getD cs (nodes xs - 1) 0 ≡ min (length (said xs)) (2 ^ 64 - 1)
+  targets =
+      counts .each (nodes xs - 1) (omega (arith, sound-from xs three .some))
+      ∙ ap (λ (n : ℕ). min n (2 ^ 64 - 1)) (whole-count xs (sound-from xs three))
 
--- the count of the last node
-pub last-count : (xs : List ℤ) (cs : List ℕ) → Sound xs → Counts xs cs (nodes xs) → getD cs (nodes xs - 1) 0 ≡ min (length (said xs)) (2 ^ 64 - 1)
-last-count xs cs s c = c .each (nodes xs - 1) (omega (arith, s .some)) ∙ ap (λ (n : ℕ). min n (2 ^ 64 - 1)) (whole-count xs s)
+  pub refused-room : most < getD cs (nodes xs - 1) 0 → (n : ℕ) → n ≡ min (getD cs (nodes xs - 1) 0) (2 ^ 40) → refusal-of xs most ≡ Some (Room n)
+  refused-room l n e =
+      let many : most < length (said xs) = omega (arith, targets) in
+      let is : n ≡ min (length (said xs)) (2 ^ 40) = omega (arith, targets) in
+      rw (three .shape, three .numbers, three .names, lt-leb (length (said xs)) most many, is)
 
--- what is left to refuse once the first three checks are passed
-module _ (xs : List ℤ) (most : ℕ) (a : well-shaped xs ≡ true) (b : first-in small 0 xs ≡ None) (c : first-of (well-named xs) 0 (nodes xs) ≡ None) where
-  pub refused-room : most < length (said xs) → (n : ℕ) → n ≡ min (length (said xs)) (2 ^ 40) → refusal-of xs most ≡ Some (Room n)
-  refused-room l n e = rw (a, b, c, lt-leb (length (said xs)) most l, e)
+  module _ (l : getD cs (nodes xs - 1) 0 ≤ most) where
+    pub few : length (said xs) ≤ most
+    few = omega (arith, targets)
 
-  pub refused-reach : length (said xs) ≤ most → refusal-of xs most ≡ mapped Reach (first-in reached 0 (said xs))
-  refused-reach l = rw (a, b, c, le-leb (length (said xs)) most l)
+    left-to-reach : refusal-of xs most ≡ mapped Reach (first-in reached 0 (said xs))
+    left-to-reach = rw (three .shape, three .numbers, three .names, le-leb (length (said xs)) most few)
+
+    pub refused-reach : (e : Refusal) → mapped Reach (first-in reached 0 (said xs)) ≡ Some e → refusal-of xs most ≡ Some e
+    refused-reach e h = left-to-reach ∙ h
+
+    pub passed : first-in reached 0 (said xs) ≡ None → Passed xs most cs
+    passed h = record {
+      none = left-to-reach ∙ ap (mapped Reach) h;
+      sound = sound-from xs three;
+      counts = counts;
+      fits = few;
+      targets = targets ∙ omega (arith, few);
+    }
 
 pub ran-whole : {T : Type 0} (slots : Target → List T) (width : ℕ) (room : List T) (xs : List ℤ) (t : State) (room₁ : List T) → Sound xs →
     Whole slots width room (record { at = origin; said = 0 }) (went-in outside (meant xs (nodes xs - 1)) origin) t room₁ →

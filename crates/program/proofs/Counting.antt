@@ -1,37 +1,22 @@
 -- Counts that stop at a largest number: cutting the parts first changes nothing.
 use mathlib.Core.Path.{_≡_, refl, sym, ap, _∙_}
-use mathlib.Core.Bool.{Bool, true, false, _&&_}
+use mathlib.Core.Bool.{true}
 use mathlib.Core.List.{List}
-use mathlib.Core.Logic.{_⊎_, inl, inr}
-use Prim.Native.Nat.{ℕ, zero, suc, _+_, _*_, _-_, _^_, _≤_, _<_, min}
+use mathlib.Core.Logic.{inl, inr}
+use Prim.Native.Nat.{ℕ, zero, suc, _+_, _*_, _-_, _^_, _<_, min}
 use native.Mathlib.Omega.{arith}
 use lib.Dec.{ltb}
 use lib.IntN.{ℤ}
 use lib.ListN.{length, getD, set}
-use Rattle.std.proofs.shelf.Bits.{mul-le}
 use Rattle.std.proofs.shelf.Lists.{length-set, getD-set-same, getD-set-other}
-use Rattle.std.proofs.shelf.Tests.{ltb-true, lt-ltb, and-parts, cases-lt, cases-eq}
+use Rattle.std.proofs.shelf.Tests.{ltb-true, and-parts, cases-lt, cases-eq}
 use Rattle.program.proofs.Naming.{meant-step}
 use Rattle.program.specs.Answers.{names-below}
-use Rattle.program.specs.Nodes.{nodes, node-in, program, programs}
+use Rattle.program.specs.Nodes.{nodes, node-in, program}
 use Rattle.program.specs.Programs.{Program, count}
 use Rattle.program.specs.Walks.{meant, counted, Sound, Counts}
 use Rattle.program.specs.declared.node.Node.{Node}
 use Rattle.program.specs.declared.node.Node.the-variants.{Nothing, To, By, Next, Times, At, Turn, Mirror, Sub}
-
-pub names-more : (m n : ℕ) (v : Node) → m ≤ n → names-below m v ≡ true → names-below n v ≡ true
-names-more m n Nothing l h = refl
-names-more m n (To p v) l h = refl
-names-more m n (By d v) l h = refl
-names-more m n (Next a b) l h =
-    let x : ltb a n ≡ true = lt-ltb a n (omega (arith, ltb-true a m (and-parts (ltb a m) (ltb b m) h .0))) in
-    let y : ltb b n ≡ true = lt-ltb b n (omega (arith, ltb-true b m (and-parts (ltb a m) (ltb b m) h .1))) in
-    rw (x, y)
-names-more m n (Times k a) l h = lt-ltb a n (omega (arith, ltb-true a m h))
-names-more m n (At d a) l h = lt-ltb a n (omega (arith, ltb-true a m h))
-names-more m n (Turn a) l h = lt-ltb a n (omega (arith, ltb-true a m h))
-names-more m n (Mirror a) l h = lt-ltb a n (omega (arith, ltb-true a m h))
-names-more m n (Sub a) l h = lt-ltb a n (omega (arith, ltb-true a m h))
 
 cut-times : (n c m : ℕ) → min (n * min c m) m ≡ min (n * c) m
 cut-times zero c m = omega arith
@@ -71,9 +56,6 @@ count-program f (Sub a) = refl
 pub count-meant : (xs : List ℤ) (n : ℕ) → names-below n (node-in xs n) ≡ true →
     count (meant xs n) ≡ counted (λ k. count (meant xs k)) (node-in xs n)
 count-meant xs n h = ap count (meant-step xs n h) ∙ count-program (meant xs) (node-in xs n)
-
-pub counts-none : (xs : List ℤ) (cs : List ℕ) → length cs ≡ 1024 → Counts xs cs 0
-counts-none xs cs e = record { long = e; each = λ k l. absurd (omega arith) }
 
 -- one node more
 pub counts-more : (xs : List ℤ) (cs : List ℕ) (n r : ℕ) → Sound xs → n < nodes xs → Counts xs cs n →

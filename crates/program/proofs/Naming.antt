@@ -1,17 +1,17 @@
 -- Nodes name only earlier ones, so what a node means does not depend on how many come after it.
-use mathlib.Core.Path.{_≡_, refl, sym, ap, _∙_}
-use mathlib.Core.Bool.{Bool, true, false, _&&_, cond}
+use mathlib.Core.Path.{_≡_, refl, ap}
+use mathlib.Core.Bool.{true, false}
 use mathlib.Core.List.{List}
-use mathlib.Core.Logic.{_⊎_, inl, inr}
-use Prim.Native.Nat.{ℕ, zero, suc, _+_, _*_, _≤_, _<_}
+use mathlib.Core.Logic.{inl, inr}
+use Prim.Native.Nat.{ℕ, zero, suc, _<_}
 use native.Mathlib.Omega.{arith}
 use lib.Dec.{ltb}
 use lib.IntN.{ℤ}
 use Rattle.std.proofs.shelf.Tests.{ltb-true, lt-ltb, le-ltb, and-parts, cases-lt}
 use Rattle.program.specs.Answers.{names-below}
-use Rattle.program.specs.Nodes.{nodes, node-in, program, programs}
+use Rattle.program.specs.Nodes.{node-in, program, programs}
 use Rattle.program.specs.Programs.{Program, next, times, at, turn, mirror, sub}
-use Rattle.program.specs.Walks.{meant, Sound}
+use Rattle.program.specs.Walks.{meant}
 use Rattle.program.specs.declared.node.Node.{Node}
 use Rattle.program.specs.declared.node.Node.the-variants.{Nothing, To, By, Next, Times, At, Turn, Mirror, Sub}
 

@@ -1,8 +1,8 @@
 -- What each kind of node owes the evaluator: that a walk over it may go on to the nodes it names, and what it says.
 use mathlib.Core.Path.{_≡_, refl, sym, ap, _∙_, subst}
-use mathlib.Core.Bool.{Bool, true, false, _&&_, cond}
+use mathlib.Core.Bool.{Bool, true, false, cond}
 use mathlib.Core.List.{List}
-use Prim.Native.Nat.{ℕ, zero, suc, _+_, _*_, _-_, _^_, _≤_, _<_, min}
+use Prim.Native.Nat.{ℕ, suc, _+_, _*_, _-_, _^_, _≤_, _<_}
 use native.Mathlib.Omega.{arith}
 use lib.Dec.{eqb, ltb}
 use lib.IntN.{ℤ, pos, negsuc, natAbs}
@@ -18,8 +18,8 @@ use Rattle.program.proofs.Counting.{count-meant}
 use Rattle.program.proofs.Meanings.{in-none, in-count, in-nothing, in-to, in-by, in-next, in-times, in-at, in-turn, in-mirror, in-sub, again-length}
 use Rattle.program.proofs.Naming.{meant-step}
 use Rattle.program.specs.Answers.{names-below}
-use Rattle.program.specs.Nodes.{size, number, node-of, node-in, nodes, program}
-use Rattle.program.specs.Programs.{Program, Went, stay, going, followed, again, count, to, by, next, times, at, turn, mirror, sub}
+use Rattle.program.specs.Nodes.{size, number, node-of, node-in, program}
+use Rattle.program.specs.Programs.{Program, stay, going, followed, again, count, to, at}
 use Rattle.program.specs.Walks.{meant, counted, Sound, Ready, went-in}
 use Rattle.program.specs.declared.node.Node.{Node}
 use Rattle.program.specs.declared.node.Node.the-variants.{Nothing, To, By, Next, Times, At, Turn, Mirror, Sub}

@@ -5,7 +5,7 @@
 --   Frames-hold        a program in a frame, begun at the place put there by the frame, says the targets put there and ends
 --                      at the place put there; frames nest, the inner first; repetitions and sub-programs are their bodies
 use mathlib.Core.Path.{_≡_}
-use mathlib.Core.List.{List, [], _∷_}
+use mathlib.Core.List.{[], _∷_}
 use Prim.Native.Nat.{ℕ, suc}
 use lib.IntN.{ℤ, pos, negsuc}
 use Rattle.geometry.specs.Places.{moved, turned, mirrored}

@@ -10,7 +10,7 @@ use super::walk::walk;
 use geometry::Frame;
 use refusal::Refusal;
 ghost use mathlib.Core.Path.{_≡_};
-ghost use Prim.Native.Nat.{_+_, _*_, _^_, _-_, _≤_, _<_};
+ghost use Prim.Native.Nat.{_*_, _^_, _-_, _≤_, _<_};
 ghost use lib.ListN.{length};
 ghost use Rattle.program.specs.Answers.{first-in, first-of, said, small, well-named};
 ghost use Rattle.program.specs.Nodes.{nodes as node-count};

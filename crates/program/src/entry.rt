@@ -47,7 +47,7 @@ pub impl From<Refusal> for LoadError as LoadErrorFromRefusal {
     }
 }
 
-// More targets than any memory holds.
+// More targets than any memory holds, and fewer than a count is cut to.
 const MOST_TARGETS: u64 = 1 << 60;
 
 // Writes the targets that a program says into the room, three numbers each, and answers how many. The rest of the room
@@ -60,13 +60,14 @@ pub fn say(nodes: &[i64], room: &mut [i64]) -> Said
         Ok(counts) => counts,
         Err(refusal) => return Said::Refused(refusal),
     };
+    // The checks have found every target within reach, so this one is not refused.
     match run(nodes, &counts, room) {
         Ok(targets) => Said::Says(targets),
         Err(refusal) => Said::Refused(refusal),
     }
 }
 
-// The targets that a program says, where there are no more than `most`.
+// The targets that a program says, where there are no more than `most`, or than 2^60, which no memory holds.
 pub fn load(heap: Global, nodes: &[i64], most: u64) -> Result<Vec<Target>, LoadError>
     ensures { λ r. ⌜ Loaded (now (nodes .entry)) (min most (2 ^ 60)) r ⌝ }
 {

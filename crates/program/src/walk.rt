@@ -5,7 +5,6 @@ use super::state::State;
 use super::target::Target;
 use geometry::Frame;
 use geometry::Place;
-ghost use mathlib.Core.Path.{_≡_};
 ghost use Prim.Native.Nat.{_+_, _*_, _^_, _≤_, _<_};
 ghost use lib.ListN.{length};
 ghost use Rattle.program.specs.Programs.{going};

@@ -1,13 +1,8 @@
-use mathlib.Core.Path.{_≡_, refl, sym, ap, _∙_, subst}
-use mathlib.Core.List.{List}
-use native.Mathlib.Nat.{mul-zero}
-use native.Mathlib.Omega.{arith}
+use mathlib.Core.Path.{sym, ap, _∙_}
 use lib.ListN.{length}
-use Rattle.std.proofs.shelf.Results.{err-from-errBy}
-use Rattle.std.specs.declared.option.Option.the-variants.{Some}
 use Rattle.std.specs.Options.{mapped}
 use Rattle.refusal.specs.declared.Refusal.the-variants.{Reach}
-use Rattle.program.proofs.Checking.{origin, ran-whole, start-ready, whole-went}
+use Rattle.program.proofs.Checking.{ran-whole, start-ready, whole-went}
 use Rattle.program.specs.Answers.{first-in, reached}
 use Rattle.program.specs.Programs.{Went}
 use Rattle.program.proofs.check.run.Needs as need

@@ -1,4 +1,3 @@
-use mathlib.Core.Path.{_≡_}
 use Rattle.program.proofs.Counting.{counts-more}
 use native.Mathlib.Omega.{arith}
 use Rattle.program.proofs.counts.count_all.Needs as need

@@ -1,5 +1,4 @@
 use mathlib.Core.Path.{_≡_, sym, ap, _∙_}
-use Prim.Native.Nat.{ℕ}
 use lib.ListN.{length}
 use Rattle.program.proofs.Rooming.{refilled-whole}
 use Rattle.program.specs.Answers.{refusal-of, said}
