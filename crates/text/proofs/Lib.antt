@@ -1,0 +1,5 @@
+mod Drafts
+pub mod Rows
+mod Scans
+mod Stacks
+mod Taken

@@ -1,0 +1,4 @@
+mod Alone
+mod Built
+mod Rebuilt
+mod Spelled
