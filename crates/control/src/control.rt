@@ -86,7 +86,8 @@ impl Control {
     pub fn add(&mut self, target: Target) -> Result<(), AddError>
         ensures { λ r. ⌜ Added target r (now (self .entry) .machine) (vec-items (now (self .entry) .targets)) (now (self .entry) .work) (now (self .exit) .machine) (vec-items (now (self .exit) .targets)) (now (self .exit) .work) ⌝ }
     {
-        if !target.to.is_within(REACH) {
+        let near = target.to.is_within(REACH);
+        if !near {
             return Err(AddError::Refused(Refusal::Lent(1)));
         }
         self.targets.push(target)?;

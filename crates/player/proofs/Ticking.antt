@@ -45,10 +45,10 @@ one-more m ts w out k v u lines more h e f = record {
 }
 
 -- the same, as a tick of a control gives it
-pub another : (m m1 : Machine) (ts ts1 : List Target) (w : Work) (out : List ℕ) (k : ℕ) (v u : Work) (lines more : List ℕ) (d : Pulses)
-    → m1 ≡ m → ts1 ≡ ts → Made m ts w out k v lines → u ≡ happens m1 ts1 Tick v → d ≡ pulses m1 ts1 Tick v → more ≡ lines ++ pulses-line d
+pub another : (m m′ : Machine) (ts ts′ : List Target) (w : Work) (out : List ℕ) (k : ℕ) (v u : Work) (lines more : List ℕ) (d : Pulses)
+    → m′ ≡ m → ts′ ≡ ts → Made m ts w out k v lines → u ≡ happens m′ ts′ Tick v → d ≡ pulses m′ ts′ Tick v → more ≡ lines ++ pulses-line d
     → Made m ts w out (suc k) u more
-another m m1 ts ts1 w out k v u lines more d a b h e f g =
+another m m′ ts ts′ w out k v u lines more d a b h e f g =
     let p : d ≡ pulses m ts Tick v = f ∙ rw (a, b) in
     one-more m ts w out k v u lines more h (e ∙ rw (a, b)) (g ∙ ap (λ (x : Pulses). lines ++ pulses-line x) p)
 

@@ -17,12 +17,12 @@ unfoldable pub ticked : Machine → List Target → ℕ → Work → List ℕ
 ticked m ts zero w = []
 ticked m ts (suc n) w = pulses-line (pulses m ts Tick w) ++ ticked m ts n (happens m ts Tick w)
 
-pub record Ran (full n left : ℕ) (m : Machine) (ts : List Target) (w : Work) (out : List ℕ) (m1 : Machine) (ts1 : List Target) (w1 : Work) (out1 : List ℕ) : Type 0 where
+pub record Ran (full n left : ℕ) (m : Machine) (ts : List Target) (w : Work) (out : List ℕ) (m′ : Machine) (ts′ : List Target) (w′ : Work) (out′ : List ℕ) : Type 0 where
   pub some : left ≤ n
-  pub machine : m1 ≡ m
-  pub targets : ts1 ≡ ts
+  pub machine : m′ ≡ m
+  pub targets : ts′ ≡ ts
   -- so many ticks were made, and each one's pulses were put
-  pub work : w1 ≡ row m ts (ticks (n - left)) w
-  pub lines : out1 ≡ out ++ ticked m ts (n - left) w
+  pub work : w′ ≡ row m ts (ticks (n - left)) w
+  pub lines : out′ ≡ out ++ ticked m ts (n - left) w
   -- it gets on, unless the lines were too many before
   pub onward : length out < full → 1 ≤ n → left < n

@@ -5,7 +5,7 @@ ghost use Rattle.text.specs.declared.error.Fault.the-variants.{Memory};
 use refusal::Refusal;
 use std::alloc::AllocError;
 
-#[derive(Clone, Copy, PartialEq, Eq, Debug)]
+#[derive(Clone, Copy, Debug)]
 pub enum Expected {
     Line,
     LineOrClose,
@@ -18,7 +18,7 @@ pub enum Expected {
 }
 
 // The first word that can't stand where it stands, or the end of the text where it ends too early.
-#[derive(Clone, Copy, PartialEq, Eq, Debug)]
+#[derive(Clone, Copy, Debug)]
 pub struct Unreadable {
     // How many line feeds stand before it.
     pub line: u64,
@@ -36,7 +36,7 @@ impl Unreadable {
     }
 }
 
-#[derive(Clone, Copy, PartialEq, Eq, Debug)]
+#[derive(Clone, Copy, Debug)]
 pub enum ReadError {
     Unreadable(Unreadable),
     Memory,

@@ -3,7 +3,7 @@ ghost use mathlib.Core.Path.{_≡_};
 ghost use Prim.Native.Nat.{_≤_};
 ghost use lib.ListN.{length};
 ghost use Rattle.text.specs.Nodes.{node};
-ghost use Rattle.text.specs.Reading.{held-of, Stepped, on-line, line-ends, step, read, Answers, error-of, unreadable-at};
+ghost use Rattle.text.specs.Reading.{held-of, Stepped, on-line, begins, line-ends, step, read, Answers, error-of, unreadable-at};
 use crate::draft::Draft;
 use crate::error::Expected;
 use crate::error::Fault;
@@ -28,14 +28,23 @@ impl Draft {
     {
         match token {
             Token::Number(n) => Ok(Phase::Count(n)),
-            Token::Word(Key::To) => Ok(Phase::MoveX(Move::Absolute)),
-            Token::Word(Key::By) => Ok(Phase::MoveX(Move::Incremental)),
-            Token::Word(Key::At) => Ok(Phase::OffsetX),
-            Token::Word(Key::Turn) => Ok(Phase::Brace(Head::Lines(Block::Turned))),
-            Token::Word(Key::Mirror) => Ok(Phase::Brace(Head::Lines(Block::Mirrored))),
-            Token::Word(Key::Sub) => Ok(Phase::Name),
-            Token::Word(Key::Close) => self.close(),
-            _ => Err(Fault::Word),
+            Token::Word(key) => self.begin_with(key),
+            Token::Other => Err(Fault::Word),
+        }
+    }
+
+    fn begin_with(&mut self, key: Key) -> Result<Phase, Fault>
+        ensures { λ r. ⌜ Stepped (begins key (held-of (now (self .entry)))) r (held-of (now (self .entry))) (held-of (now (self .exit))) ⌝ }
+    {
+        match key {
+            Key::To => Ok(Phase::MoveX(Move::Absolute)),
+            Key::By => Ok(Phase::MoveX(Move::Incremental)),
+            Key::At => Ok(Phase::OffsetX),
+            Key::Turn => Ok(Phase::Brace(Head::Lines(Block::Turned))),
+            Key::Mirror => Ok(Phase::Brace(Head::Lines(Block::Mirrored))),
+            Key::Sub => Ok(Phase::Name),
+            Key::Close => self.close(),
+            Key::Fast | Key::Times | Key::Semicolon | Key::Open => Err(Fault::Word),
         }
     }
 
