@@ -16,7 +16,7 @@ fn main(rt: LibcRuntime) -> Result<(), AnyError> {
     let mut text = Vec::new(rt.alloc());
     rt.stdin().read_to_end(&mut text)?;
     match read(rt.alloc(), &text) {
-        Ok(script) => play(&rt, &script),
+        Ok(script) => rt.report(play(&rt, &script)),
         Err(error) => {
             let sentence = Sentence(error);
             eprintln!(rt, "{sentence}")?;

@@ -21,7 +21,7 @@ fn main(rt: LibcRuntime) -> Result<(), AnyError> {
     let mut text = Vec::new(rt.alloc());
     rt.stdin().read_to_end(&mut text)?;
     match targets(rt.alloc(), &text, MOST) {
-        Ok(targets) => print(&rt, &targets),
+        Ok(targets) => rt.report(print(&rt, &targets)),
         Err(failure) => {
             tell(&rt, &text, &failure)?;
             Err("refused".into())
