@@ -3,7 +3,7 @@ ghost use mathlib.Core.Path.{_≡_};
 ghost use Rattle.std.specs.Options.{okOr};
 ghost use Rattle.text.specs.declared.error.Fault.the-variants.{Word as fault-word};
 ghost use Rattle.text.specs.Tokens.{value-of, is-key, only};
-ghost use Rattle.text.specs.Words.{token-of};
+ghost use Rattle.text.specs.Words.{key-of, token-of};
 use crate::error::Fault;
 use word::is;
 use word::number;
@@ -35,9 +35,15 @@ impl Token {
     pub fn of(word: &[u8]) -> Token
         ensures { λ r. ⌜ r ≡ token-of (now (word .entry)) ⌝ }
     {
-        if let Some(n) = number(word) {
-            return Token::Number(n);
+        match number(word) {
+            Some(n) => Token::Number(n),
+            None => Token::of_no_number(word),
         }
+    }
+
+    fn of_no_number(word: &[u8]) -> Token
+        ensures { λ r. ⌜ r ≡ key-of (now (word .entry)) ⌝ }
+    {
         if is(word, b";") {
             return Token::Word(Key::Semicolon);
         }

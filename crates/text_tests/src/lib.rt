@@ -121,7 +121,12 @@ mod tests {
             "line 1: found `by`, expected `;`",
         )?;
         refuses(heap, b"5 {", 0, "line 1: found `{`, expected `times`")?;
-        refuses(heap, b"turn\n(", 1, "line 2: found `(`, expected `{`")?;
+        refuses(heap, b"turn\n(", 1, "line 2: found `(`, expected `{`")
+    }
+
+    #[test]
+    fn damage_between_lines_has_its_line(rt: LibcRuntime) -> Result<(), Fail> {
+        let heap = rt.alloc();
         refuses(
             heap,
             b"turn { }\r\n}",
