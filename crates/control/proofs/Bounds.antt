@@ -9,10 +9,12 @@ use lib.ListN.{length, drop, getD, drop-of-length-le}
 use lib.Seq.{drop-cons}
 use lib.IntN.{natAbs}
 use Rattle.std.proofs.shelf.Signed.{ints}
+use Rattle.std.proofs.shelf.Tests.{and-parts}
 use Rattle.std.proofs.shelf.Ways.{tells}
 use Rattle.std.specs.declared.option.Option.{Option}
 use Rattle.std.specs.declared.option.Option.the-variants.{Some, None}
 use Rattle.std.specs.Vec.{listOf}
+use Rattle.geometry.proofs.Acts.{within-true}
 use Rattle.geometry.specs.declared.place.Place.{Place}
 use Rattle.geometry.specs.Places.{within, Within}
 use Rattle.program.specs.declared.target.Target.{Target}
@@ -32,34 +34,23 @@ use Rattle.work.proofs.Lists.{nil-cons, some-left}
 use Rattle.work.proofs.Safety.{Safe}
 use Rattle.control.specs.Controls.{fit, near, origin, head-of}
 
-within-fact : (n : ℕ) (p : Place) → within n p ≡ true → Within n p
-within-fact n p e = record { across = grind (arith, tells); along = grind (arith, tells) }
-
-within-test : (n : ℕ) (p : Place) → Within n p → within n p ≡ true
-within-test n p h = grind (arith, tells)
-
--- the two parts of a test that passed
-pub both : (a b : Bool) → (a && b) ≡ true → (a ≡ true) × (b ≡ true)
-both true b e = (refl, e)
-both false b e = (e, let z : _≡_ {A = ℕ} 0 1 = cc in absurd (omega arith))
-
 pub near-in : (ts : List Target) (b : ℕ) (t : Target) (us : List Target) → near ts ≡ true → drop b ts ≡ t ∷ us → Within 1000000000 (t .to)
 unfolding near
 near-in [] zero t us h e = absurd (nil-cons t us e)
 near-in [] (suc b) t us h e = absurd (nil-cons t us e)
-near-in (x ∷ ts) zero t us h e = let f : x ≡ t = cc in subst (λ (y : Target). Within 1000000000 (y .to)) f (within-fact 1000000000 (x .to) (both _ _ h .0))
-near-in (x ∷ ts) (suc b) t us h e = near-in ts b t us (both _ _ h .1) e
+near-in (x ∷ ts) zero t us h e = let f : x ≡ t = cc in subst (λ (y : Target). Within 1000000000 (y .to)) f (within-true 1000000000 (x .to) (and-parts _ _ h .0))
+near-in (x ∷ ts) (suc b) t us h e = near-in ts b t us (and-parts _ _ h .1) e
 
 pub near-start : (p : Place) (ts : List Target) (k : ℕ) → near ts ≡ true → Within 1000000000 p → Within 1000000000 (start-of p ts k)
 unfolding near start-of
 near-start p ts zero h w = w
 near-start p [] (suc k) h w = w
-near-start p (t ∷ ts) (suc k) h w = near-start (t .to) ts k (both _ _ h .1) (within-fact 1000000000 (t .to) (both _ _ h .0))
+near-start p (t ∷ ts) (suc k) h w = near-start (t .to) ts k (and-parts _ _ h .1) (within-true 1000000000 (t .to) (and-parts _ _ h .0))
 
 pub near-push : (ts : List Target) (t : Target) → near ts ≡ true → within 1000000000 (t .to) ≡ true → near (ts ++ t ∷ []) ≡ true
 unfolding near
 near-push [] t h k = ap (λ (b : Bool). b && true) k
-near-push (x ∷ ts) t h k = ap (λ (b : Bool). b && near (ts ++ t ∷ [])) (both _ _ h .0) ∙ near-push ts t (both _ _ h .1) k
+near-push (x ∷ ts) t h k = ap (λ (b : Bool). b && near (ts ++ t ∷ [])) (and-parts _ _ h .0) ∙ near-push ts t (and-parts _ _ h .1) k
 
 -- the target at a place of the list is the first of those still to go there
 pub head-at : (ts : List Target) (b : ℕ) (x : Target) → b < length ts → x ≡ getD ts b x → Some x ≡ head-of (drop b ts)

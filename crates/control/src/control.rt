@@ -21,9 +21,6 @@ use refusal::Refusal;
 use work::Machine;
 use work::Work;
 
-// How far a target may lie on an axis.
-const REACH: u64 = 1_000_000_000;
-
 #[derive(Drop)]
 pub struct Control {
     machine: Machine,
@@ -86,7 +83,7 @@ impl Control {
     pub fn add(&mut self, target: Target) -> Result<(), AddError>
         ensures { λ r. ⌜ Added target r (now (self .entry) .machine) (vec-items (now (self .entry) .targets)) (now (self .entry) .work) (now (self .exit) .machine) (vec-items (now (self .exit) .targets)) (now (self .exit) .work) ⌝ }
     {
-        let near = target.to.is_within(REACH);
+        let near = target.to.is_within(Place::REACH);
         if !near {
             return Err(AddError::Refused(Refusal::Lent(1)));
         }
@@ -124,7 +121,7 @@ fn all_near(targets: &[Target]) -> bool
     ensures { λ r. ⌜ r ≡ near (now (targets .entry)) ⌝ }
 {
     for target in targets {
-        if !target.to.is_within(REACH) {
+        if !target.to.is_within(Place::REACH) {
             return false;
         }
     }

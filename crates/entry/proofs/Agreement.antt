@@ -10,6 +10,7 @@ use lib.Dec.{leb, eqb}
 use lib.ListN.{length, drop}
 use lib.IntN.{ℤ, pos, natAbs}
 use Rattle.std.proofs.shelf.Bits.{mul-le, div-below}
+use Rattle.std.proofs.shelf.Tests.{and-parts}
 use Rattle.std.specs.declared.option.Option.the-variants.{None}
 use Rattle.geometry.specs.declared.place.Place.{Place}
 use Rattle.geometry.specs.Places.{within, Within}
@@ -27,8 +28,9 @@ use Rattle.work.specs.Promises.{cap-now, made, Moved, Ticked}
 use Rattle.work.proofs.Safety.{Safe, safe-after}
 use Rattle.work.proofs.Ticks.{ticked}
 use Rattle.control.specs.Controls.{in-range, fit, near, origin, Reached}
-use Rattle.control.proofs.Bounds.{both, range, from-near, steps-near}
-use Rattle.entry.specs.Entries.{size, targets-in, work-in, memory-of, all-within, sound, checks, refusal-of, Done-says}
+use Rattle.control.proofs.Bounds.{range, from-near, steps-near}
+use Rattle.entry.specs.Entries.{targets-in, work-in, memory-of, all-within, sound, checks, refusal-of, Done-says}
+use Rattle.program.specs.Nodes.{size}
 use Rattle.entry.specs.Agreement.{flat, Agrees}
 
 said : (ts : List Target) → targets-in (flat ts) ≡ ts
@@ -121,8 +123,8 @@ module _ (m : Machine) (ts : List Target) (w : Work) (f : fit m ≡ true) (h : n
 
   taken : (kind number : ℕ) → kind ≤ 3 → number ≤ 1000 → refusal-of (m .change) (m .top) (flat ts) (memory-of w) kind number ≡ None
   taken kind number k l =
-      let a : in-range (m .change) ≡ true = both _ _ f .0 in
-      let b : in-range (m .top) ≡ true = both _ _ f .1 in
+      let a : in-range (m .change) ≡ true = and-parts _ _ f .0 in
+      let b : in-range (m .top) ≡ true = and-parts _ _ f .1 in
       let c : eqb (length (flat ts) % 3) 0 ≡ true = eq-eqb _ _ (omega (arith, long-flat ts)) in
       let d : near (targets-in (flat ts)) ≡ true = ap near (said ts) ∙ h in
       let i : leb kind 3 ≡ true = le-leb _ _ k in

@@ -10,7 +10,8 @@ use Rattle.std.specs.declared.option.Option.the-variants.{Some, None}
 use Rattle.geometry.specs.Places.{within}
 use Rattle.program.specs.declared.target.Target.{Target}
 use Rattle.control.specs.Controls.{near, head-of}
-use Rattle.entry.specs.Entries.{size, target-of, targets-in, nth}
+use Rattle.entry.specs.Entries.{target-of, targets-in, nth}
+use Rattle.program.specs.Nodes.{size}
 
 pub how-many : (xs : List ℤ) → length (targets-in xs) ≡ length xs / 3
 unfolding targets-in

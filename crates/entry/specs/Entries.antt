@@ -1,5 +1,4 @@
 -- What the contracts of the entries over lent numbers cite. Assumes nothing.
---   size z           a number without a sign, 0 for one below 0
 --   targets-in xs    the targets that numbers say, three each: x, y, fast
 --   work-in xs       the work that seven numbers say: how many targets are behind it, where the line began, how far it has
 --                    come, how fast, 1 if held, the percent
@@ -16,13 +15,14 @@ use mathlib.Core.List.{List, [], _∷_}
 use Prim.Native.Nat.{ℕ, _%_, _≤_}
 use lib.Dec.{leb, eqb}
 use lib.ListN.{length, getD}
-use lib.IntN.{ℤ, pos, negsuc, natAbs}
+use lib.IntN.{ℤ, pos, natAbs}
 use Rattle.std.specs.declared.option.Option.{Option}
 use Rattle.std.specs.declared.option.Option.the-variants.{Some, None}
 use Rattle.refusal.specs.declared.Refusal.{Refusal}
 use Rattle.refusal.specs.declared.Refusal.the-variants.{Machine as Unfit, Lent, Event as Unknown}
 use Rattle.geometry.specs.declared.place.Place.{Place}
 use Rattle.geometry.specs.Places.{within, Within}
+use Rattle.program.specs.Nodes.{size}
 use Rattle.program.specs.declared.target.Target.{Target}
 use Rattle.work.specs.declared.machine.Machine.{Machine}
 use Rattle.work.specs.declared.work.Work.{Work}
@@ -34,10 +34,6 @@ use Rattle.pulses.specs.Motors.{pulses}
 use Rattle.control.specs.Controls.{in-range, fit, near}
 use Rattle.entry.specs.declared.done.Done.{Done}
 use Rattle.entry.specs.declared.done.Done.the-variants.{Moved, Turned}
-
-abbrev pub size : ℤ → ℕ
-size (pos n) = n
-size (negsuc n) = 0
 
 abbrev pub target-of : ℤ → ℤ → ℤ → Target
 target-of x y f = record { to = record { x = x; y = y }; fast = size f }

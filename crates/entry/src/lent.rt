@@ -2,12 +2,10 @@
 ghost use lib.ListN.{drop};
 ghost use mathlib.Core.Path.{_≡_};
 ghost use Rattle.control.specs.Controls.{near, head-of};
-ghost use Rattle.entry.specs.Entries.{size, targets-in};
+ghost use Rattle.entry.specs.Entries.{targets-in};
+ghost use Rattle.program.specs.Nodes.{size};
 use geometry::Place;
 use program::Target;
-
-// How far a target may lie on an axis.
-pub const REACH: u64 = 1_000_000_000;
 
 // A number without a sign, 0 for one below 0.
 pub fn size(n: i64) -> u64
@@ -42,7 +40,7 @@ pub fn targets_near(targets: &[i64]) -> bool
             x: targets[3 * i],
             y: targets[3 * i + 1],
         };
-        if !to.is_within(REACH) {
+        if !to.is_within(Place::REACH) {
             return false;
         }
     }

@@ -4,7 +4,6 @@ ghost use mathlib.Core.Bool.{true};
 ghost use mathlib.Core.Path.{_≡_};
 ghost use Prim.Native.Nat.{ℕ, _≤_, _<_, _^_};
 ghost use Rattle.entry.specs.Entries.{all-within, sound, work-in, memory-of};
-use crate::lent::REACH;
 use crate::lent::size;
 use geometry::Place;
 use work::Motion;
@@ -30,7 +29,7 @@ pub fn is_sound(memory: &[i64]) -> bool
     Place {
         x: memory[1],
         y: memory[2],
-    }.is_within(REACH)
+    }.is_within(Place::REACH)
 }
 
 // Whether no number is past m either way.

@@ -11,6 +11,9 @@ pub struct Place {
 impl Place {
     pub const ORIGIN: Place = Place { x: 0, y: 0 };
 
+    // How far from 0, 0 a target may lie on an axis.
+    pub const REACH: u64 = 1_000_000_000;
+
     // Whether no axis is past n either way.
     pub fn is_within(self, n: u64) -> bool
         ensures { λ r. ⌜ r ≡ within n self ⌝ }

@@ -4,11 +4,11 @@ use Prim.Native.Nat.{ℕ, max}
 use native.Mathlib.Omega.{arith}
 use lib.IntN.{ℤ, pos, _+ℤ_, _-ℤ_, natAbs}
 use Rattle.std.proofs.shelf.Signed.{ints}
+use Rattle.geometry.proofs.Acts.{same-place}
 use Rattle.geometry.specs.declared.place.Place.{Place}
 use Rattle.geometry.specs.Places.{moved, turned, mirrored}
 use Rattle.line.specs.Lines.{share, long, on-line}
 use Rattle.line.proofs.Shares.{moved-axis, back-axis}
-use Rattle.line.proofs.Walk.{same-place}
 
 pub moved-long : (d p q : Place) → long (moved d p) (moved d q) ≡ long p q
 unfolding long

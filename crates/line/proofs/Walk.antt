@@ -4,14 +4,12 @@ use Prim.Native.Nat.{ℕ, _+_, _*_, _≤_, _<_}
 use native.Mathlib.Omega.{arith}
 use lib.IntN.{ℤ, _+ℤ_, _-ℤ_, natAbs}
 use Rattle.std.proofs.shelf.Signed.{ints}
+use Rattle.geometry.proofs.Acts.{same-place}
 use Rattle.geometry.specs.declared.place.Place.{Place}
 use Rattle.geometry.specs.Places.{Within}
 use Rattle.line.specs.Laws.{Nearest}
 use Rattle.line.specs.Lines.{share, long, on-line}
 use Rattle.line.proofs.Shares.{share-by, share-none, starts-axis, ends-axis, steps-axis, nearest-axis}
-
-pub same-place : {p q : Place} → p .x ≡ q .x → p .y ≡ q .y → p ≡ q
-same-place e f = λ i. record { x = e i; y = f i }
 
 -- no axis has more steps to make than the line
 pub long-x : (p q : Place) → natAbs (q .x -ℤ p .x) ≤ long p q

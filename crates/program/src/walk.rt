@@ -10,9 +10,6 @@ ghost use lib.ListN.{length};
 ghost use Rattle.program.specs.Programs.{going};
 ghost use Rattle.program.specs.Walks.{meant, Ready, Walked, went-in};
 
-// How far a target may lie from 0, 0 on either axis.
-const REACH: u64 = 1_000_000_000;
-
 // A target out of reach: the state stands before the first one.
 #[derive(Clone, Copy)]
 pub struct OutOfReach;
@@ -24,7 +21,7 @@ fn put<T: Slot>(target: Target, state: &mut State, room: &mut [T]) -> Result<(),
     requires fits { ⌜ now state .said + 1 < 2 ^ 64 ⌝ }
     ensures { λ r. ⌜ Walked (T·Slot .slots) (T·Slot .width) (now (room .entry)) (now (state .entry)) (going target) r (now (state .exit)) (now (room .exit)) ⌝ }
 {
-    if !target.to.is_within(REACH) {
+    if !target.to.is_within(Place::REACH) {
         return Err(OutOfReach);
     }
     T::store(room, state.said, target);

@@ -7,7 +7,7 @@ use lib.IntN.{ℤ, pos, _+ℤ_, _-ℤ_, natAbs}
 use Rattle.std.proofs.shelf.Signed.{ints}
 use Rattle.geometry.specs.declared.place.Place.{Place}
 use Rattle.program.specs.declared.target.Target.{Target}
-use Rattle.line.proofs.Walk.{same-place}
+use Rattle.geometry.proofs.Acts.{same-place}
 use Rattle.work.specs.declared.machine.Machine.{Machine}
 use Rattle.work.specs.declared.work.Work.{Work}
 use Rattle.work.specs.declared.event.Event.{Event}

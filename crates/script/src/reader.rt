@@ -18,10 +18,8 @@ use crate::scanner::first_word;
 use crate::scanner::line_feeds;
 use crate::script::Order;
 use crate::script::Script;
+use geometry::Place;
 use std::alloc::Global;
-
-// The farthest that a place may be from 0, 0 on any axis.
-const REACH: u64 = 1_000_000_000;
 
 // Reads a script whole, and checks its numbers.
 pub fn read(heap: Global, text: &[u8]) -> Result<Script, ScriptError<'_>>
@@ -146,7 +144,7 @@ fn too_far(order: Order) -> Option<Fault>
     let Order::To(target) = order else {
         return None;
     };
-    if target.to.is_within(REACH) {
+    if target.to.is_within(Place::REACH) {
         return None;
     }
     Some(Fault::Far(target.to))

@@ -5,7 +5,8 @@ use borrow.Author.Needs.{needs}
 use mir.Syntax.{w64}
 use mir.Val.{SFits}
 use Rattle.std.proofs.shelf.Signed.{toZ-ofZ}
-use Rattle.entry.specs.Entries.{size, nth}
+use Rattle.entry.specs.Entries.{nth}
+use Rattle.program.specs.Nodes.{size}
 use Rattle.entry.proofs.Threes.{head-at, head-past}
 use Rattle.entry.proofs.lent.target_at.Needs as need
 

@@ -5,8 +5,9 @@ use mir.Syntax.{w64}
 use mir.Val.{SFits}
 use borrow.Author.Needs.{needs}
 use Rattle.std.proofs.shelf.Signed.{toZ-ofZ}
+use Rattle.geometry.proofs.Acts.{same-place}
 use Rattle.line.specs.Lines.{share, on-line}
-use Rattle.line.proofs.Walk.{same-place, long-x, long-y, long-within}
+use Rattle.line.proofs.Walk.{long-x, long-y, long-within}
 use Rattle.line.proofs.line.Line.place.Needs as need
 
 pub along-requires : need.along-requires
