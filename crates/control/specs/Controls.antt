@@ -76,8 +76,8 @@ pub record Few (m : Machine) (ts : List Target) (w : Work) (d : Pulses) : Type 0
   pub across : natAbs (d .x) ≤ max (cap-now m (w .panel) (todo ts (w .motion))) (w .motion .speed)
   pub along : natAbs (d .y) ≤ max (cap-now m (w .panel) (todo ts (w .motion))) (w .motion .speed)
 
--- a target put behind the others: taken, refused because it lies too far, or not for want of memory; then nothing changes
+-- a target put behind the others: taken, refused because it lies too far, or, near enough, not for want of memory; then nothing changes
 abbrev pub Added : Target → Result (Unit {0}) AddError → Machine → List Target → Work → Machine → List Target → Work → Type 0
 Added t (Ok u) m ts w n us v = (within 1000000000 (t .to) ≡ true) × (n ≡ m) × (us ≡ ts ++ t ∷ []) × (v ≡ w) × ∥ Promise m origin us v ∥₁
 Added t (Err (Refused e)) m ts w n us v = (within 1000000000 (t .to) ≡ false) × (e ≡ Lent 1) × (n ≡ m) × (us ≡ ts) × (v ≡ w)
-Added t (Err Memory) m ts w n us v = (n ≡ m) × (us ≡ ts) × (v ≡ w)
+Added t (Err Memory) m ts w n us v = (within 1000000000 (t .to) ≡ true) × (n ≡ m) × (us ≡ ts) × (v ≡ w)

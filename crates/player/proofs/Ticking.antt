@@ -1,9 +1,12 @@
 -- One tick more: the work, and the lines put.
 use mathlib.Core.Path.{_≡_, refl, sym, _∙_, ap}
+use mathlib.Core.Bool.{true, false}
 use mathlib.Core.List.{List, [], _∷_, _++_, append-assoc, append-nil}
 use Prim.Native.Nat.{ℕ, zero, suc, _+_, _-_, _≤_, _<_}
 use native.Mathlib.Omega.{arith}
+use lib.Dec.{leb}
 use lib.ListN.{length}
+use Rattle.std.proofs.shelf.Tests.{le-leb, lt-leb}
 use Rattle.program.specs.declared.target.Target.{Target}
 use Rattle.work.specs.declared.machine.Machine.{Machine}
 use Rattle.work.specs.declared.work.Work.{Work}
@@ -13,7 +16,7 @@ use Rattle.work.proofs.Arrival.{tick-first}
 use Rattle.pulses.specs.declared.Pulses.{Pulses}
 use Rattle.pulses.specs.Motors.{pulses}
 use Rattle.decimal.specs.Lines.{pulses-line}
-use Rattle.player.specs.Plays.{ticked}
+use Rattle.player.specs.Plays.{ticked, left-over}
 
 -- the last tick's line stands last
 ticked-last : (m : Machine) (ts : List Target) (n : ℕ) (w : Work) → ticked m ts (suc n) w ≡ ticked m ts n w ++ pulses-line (pulses m ts Tick (row m ts (ticks n) w))
@@ -56,3 +59,29 @@ another m m′ ts ts′ w out k v u lines more d a b h e f g =
 pub same-lines : (m : Machine) (ts : List Target) (w : Work) (out : List ℕ) (k : ℕ) (v : Work) (lines : List ℕ) → Made m ts w out k v lines → k ≡ 0 → length lines ≡ length out
 unfolding ticked
 same-lines m ts w out k v lines h e = ap length (h .put ∙ ap (λ (n : ℕ). out ++ ticked m ts n w) e ∙ append-nil out)
+
+-- how many are left does not change with a tick, and is what is left where it ends
+pub left-over-again : (full : ℕ) (m m′ : Machine) (ts ts′ : List Target) (left : ℕ) (w u : Work) (out more : List ℕ) (d : Pulses)
+    → m′ ≡ m → ts′ ≡ ts → 0 < left → length out < full → u ≡ happens m′ ts′ Tick w → d ≡ pulses m′ ts′ Tick w → more ≡ out ++ pulses-line d
+    → left-over full m ts (left - 1) u more ≡ left-over full m ts left w out
+unfolding left-over
+left-over-again full m m′ ts ts′ zero w u out more d a b some short e f g = absurd (omega arith)
+left-over-again full m m′ ts ts′ (suc n) w u out more d a b some short e f g =
+    let t : leb full (length out) ≡ false = lt-leb full (length out) short in
+    let p : d ≡ pulses m ts Tick w = f ∙ rw (a, b) in
+    let q : u ≡ happens m ts Tick w = e ∙ rw (a, b) in
+    let r : more ≡ out ++ pulses-line (pulses m ts Tick w) = g ∙ ap (λ (x : Pulses). out ++ pulses-line x) p in
+    let z : suc n - 1 ≡ n = omega arith in
+    rw (z, t, q, r) refl
+
+pub left-over-none : (full : ℕ) (m : Machine) (ts : List Target) (left : ℕ) (w : Work) (out : List ℕ) → left ≡ 0 → left-over full m ts left w out ≡ left
+unfolding left-over
+left-over-none full m ts zero w out e = refl
+left-over-none full m ts (suc n) w out e = absurd (omega arith)
+
+pub left-over-full : (full : ℕ) (m : Machine) (ts : List Target) (left : ℕ) (w : Work) (out : List ℕ) → full ≤ length out → left-over full m ts left w out ≡ left
+unfolding left-over
+left-over-full full m ts zero w out e = refl
+left-over-full full m ts (suc n) w out e =
+    let t : leb full (length out) ≡ true = le-leb full (length out) e in
+    rw t refl

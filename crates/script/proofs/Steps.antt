@@ -12,9 +12,10 @@ use Rattle.std.specs.declared.result.Result.the-variants.{Ok, Err}
 use Rattle.std.proofs.shelf.Lists.{drop-more, drop-all}
 use Rattle.std.proofs.shelf.Tests.{eqb-true, eqb-false}
 use Rattle.script.specs.declared.script.Order.{Order}
+use Rattle.script.specs.declared.fault.Expected.the-variants as expected
 use Rattle.script.specs.declared.fault.Fault.{Fault}
 use Rattle.script.specs.Words.{row, words, lines-after, lines}
-use Rattle.script.specs.Orders.{order-of, machine-of}
+use Rattle.script.specs.Orders.{Misread, order-of, machine-of}
 use Rattle.script.specs.Scripts.{orders-from, told-by, script-from, first}
 
 row-none : (key : List ℕ) (ws : List (List ℕ)) → eqb (length key) 0 ≡ true → row key ws ≡ []
@@ -32,28 +33,28 @@ module _ (rest now behind key : List ℕ) (ws : List (List ℕ)) (line : lines r
   orders-blank n os z = rw (line, word, row-none key ws z)
 
   pub orders-more :
-      (n : ℕ) (os : List Order) (o : Order) → eqb (length key) 0 ≡ false → order-of key ws ≡ Some o →
+      (n : ℕ) (os : List Order) (o : Order) → eqb (length key) 0 ≡ false → order-of key ws ≡ Ok o →
       orders-from n os (lines rest) ≡ orders-from (n + 1) (os ++ o ∷ []) (lines behind)
   unfolding orders-from
   orders-more n os o p e = rw (line, word, row-some key ws p, e)
 
-  pub orders-stop : (n : ℕ) (os : List Order) → eqb (length key) 0 ≡ false → order-of key ws ≡ None → orders-from n os (lines rest) ≡ Err n
+  pub orders-stop : (n : ℕ) (os : List Order) (w : Misread) → eqb (length key) 0 ≡ false → order-of key ws ≡ Err w → orders-from n os (lines rest) ≡ Err (record { line = n; word = w })
   unfolding orders-from
-  orders-stop n os p e = rw (line, word, row-some key ws p, e)
+  orders-stop n os w p e = rw (line, word, row-some key ws p, e)
 
   pub script-blank : (e n : ℕ) → eqb (length key) 0 ≡ true → script-from e n (lines rest) ≡ script-from e (n + 1) (lines behind)
   unfolding script-from
   script-blank e n z = rw (line, word, row-none key ws z)
 
   pub script-more :
-      (e n : ℕ) (m : ℕ × ℕ) → eqb (length key) 0 ≡ false → machine-of key ws ≡ Some m →
+      (e n : ℕ) (m : ℕ × ℕ) → eqb (length key) 0 ≡ false → machine-of key ws ≡ Ok m →
       script-from e n (lines rest) ≡ told-by m (orders-from (n + 1) [] (lines behind))
   unfolding script-from
   script-more e n m p h = rw (line, word, row-some key ws p, h)
 
-  pub script-stop : (e n : ℕ) → eqb (length key) 0 ≡ false → machine-of key ws ≡ None → script-from e n (lines rest) ≡ Err n
+  pub script-stop : (e n : ℕ) (w : Misread) → eqb (length key) 0 ≡ false → machine-of key ws ≡ Err w → script-from e n (lines rest) ≡ Err (record { line = n; word = w })
   unfolding script-from
-  script-stop e n p h = rw (line, word, row-some key ws p, h)
+  script-stop e n w p h = rw (line, word, row-some key ws p, h)
 
 -- no line is left
 pub orders-end : (n : ℕ) (os : List Order) (rest : List ℕ) → eqb (length rest) 0 ≡ true → orders-from n os (lines rest) ≡ Ok os
@@ -61,7 +62,7 @@ unfolding orders-from lines-after
 orders-end n os [] z = refl
 orders-end n os (b ∷ bs) z = absurd (omega (arith, eqb-true (length (b ∷ bs)) 0 z))
 
-pub script-end : (e n : ℕ) (rest : List ℕ) → eqb (length rest) 0 ≡ true → script-from e n (lines rest) ≡ Err e
+pub script-end : (e n : ℕ) (rest : List ℕ) → eqb (length rest) 0 ≡ true → script-from e n (lines rest) ≡ Err (record { line = e; word = record { found = rest; expects = expected.Machine } })
 unfolding script-from lines-after
 script-end e n [] z = refl
 script-end e n (b ∷ bs) z = absurd (omega (arith, eqb-true (length (b ∷ bs)) 0 z))

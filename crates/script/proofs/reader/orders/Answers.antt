@@ -2,6 +2,7 @@ use mathlib.Core.Path.{sym, ap, _∙_}
 use Prim.Native.Nat.{_+_}
 use native.Mathlib.Omega.{arith}
 use Rattle.std.specs.Of.Vec.{vec-items}
+use Rattle.script.specs.Orders.{misread}
 use Rattle.script.specs.Words.{words, lines}
 use Rattle.script.specs.Scripts.{orders-from}
 use Rattle.script.proofs.Steps.{orders-blank, orders-more, orders-stop, orders-end}
@@ -29,7 +30,7 @@ pub returns-in-Err : need.returns-in-Err
 returns-in-Err c =
     sym (c .loop-rest .inv .0)
     ∙ orders-stop (c .loop-rest .rest .now) (c .first-line .result .0 .now) (c .first-line .result .1 .now) (c .first-word .result .0 .now) (words (c .first-word .result .1 .now))
-    (c .first-line .ensures .value) (c .first-word .ensures) (c .loop-rest .line) (vec-items (c .loop-rest .orders))
+    (c .first-line .ensures .value) (c .first-word .ensures) (c .loop-rest .line) (vec-items (c .loop-rest .orders)) (misread (c .in-Err .wrong))
     (sym (c .if-is-empty .ensures tt)) (c .in-Err .ensures tt)
 
 pub returns : need.returns
