@@ -6,7 +6,7 @@ use Prim.Native.Nat.{ℕ, zero, suc, _+_, _-_, _*_, _^_, _≤_, _<_, max}
 use native.Mathlib.Omega.{arith}
 use lib.Dec.{leb}
 use lib.ListN.{length, drop, getD, drop-of-length-le}
-use lib.Seq.{drop-cons}
+use lib.Seq.{drop-append-le, drop-cons}
 use lib.IntN.{natAbs}
 use Rattle.std.proofs.shelf.Signed.{ints}
 use Rattle.std.proofs.shelf.Tests.{and-parts}
@@ -32,6 +32,7 @@ use Rattle.work.specs.Promises.{start-of, Can-stop}
 use Rattle.work.specs.Ranges.{Small, Near-line, Near, Slow, Ready}
 use Rattle.work.proofs.Lists.{nil-cons, some-left}
 use Rattle.work.proofs.Safety.{Safe}
+use Rattle.work.proofs.Ticks.{begins}
 use Rattle.control.specs.Controls.{fit, near, origin, head-of}
 
 pub near-in : (ts : List Target) (b : ℕ) (t : Target) (us : List Target) → near ts ≡ true → drop b ts ≡ t ∷ us → Within 1000000000 (t .to)
@@ -53,8 +54,8 @@ near-push [] t h k = ap (λ (b : Bool). b && true) k
 near-push (x ∷ ts) t h k = ap (λ (b : Bool). b && near (ts ++ t ∷ [])) (and-parts _ _ h .0) ∙ near-push ts t (and-parts _ _ h .1) k
 
 -- the target at a place of the list is the first of those still to go there
-pub head-at : (ts : List Target) (b : ℕ) (x : Target) → b < length ts → x ≡ getD ts b x → Some x ≡ head-of (drop b ts)
-head-at ts b x h e = ap Some e ∙ sym (ap head-of (drop-cons ts b x h))
+pub head-at : (ts : List Target) (b : ℕ) (d : Target) → b < length ts → Some (getD ts b d) ≡ head-of (drop b ts)
+head-at ts b d h = sym (ap head-of (drop-cons ts b d h))
 
 pub head-none : (ts : List Target) (b : ℕ) → length ts ≤ b → None ≡ head-of (drop b ts)
 head-none ts b h = sym (ap head-of (drop-of-length-le ts h))
@@ -80,6 +81,20 @@ pub happens-next :
     (m : Machine) (ts : List Target) (e : Event) (w v : Work) (next : Option Target) → next ≡ head-of (todo ts (w .motion)) →
     v ≡ does m (listOf next) e w → v ≡ happens m ts e w
 happens-next m ts e w v next i h = h ∙ ap (λ (n : Option Target). does m (listOf n) e w) i ∙ does-head m (todo ts (w .motion)) e w
+
+-- along more targets it stands where it stood
+pub place-more : (m : Machine) (ts us : List Target) (w : Motion) → Safe m origin ts w → place ts w ≡ place (ts ++ us) w
+unfolding stands
+place-more m ts us w s = by (todo ts w) refl
+  where
+    more : todo (ts ++ us) w ≡ todo ts w ++ us
+    more = drop-append-le (w .behind) ts us (s .few)
+
+    by : (xs : List Target) → todo ts w ≡ xs → place ts w ≡ place (ts ++ us) w
+    by [] i =
+        let c : Can-stop (m .change) w [] = rw i at (s .stop) in
+        ap (stands w) i ∙ sym (ap (stands w) (more ∙ ap (λ (ys : List Target). ys ++ us) i) ∙ begins w us (c .0))
+    by (t ∷ xs) i = ap (stands w) i ∙ sym (ap (stands w) (more ∙ ap (λ (ys : List Target). ys ++ us) i))
 
 pub range : (m : Machine) → fit m ≡ true → (1 ≤ m .change) × (m .change ≤ 1000000) × (m .top ≤ 1000000)
 range m f = (grind (arith, tells), grind (arith, tells), grind (arith, tells))

@@ -6,6 +6,7 @@ use mathlib.Core.Logic.{_⊎_, inl, inr, ⊎-elim, ∥∥₁-elim, ∥∥₁-map
 use Prim.Native.Nat.{ℕ, zero, suc, _+_, _^_, _≤_, _<_}
 use native.Mathlib.Bridge.{le-prop}
 use native.Mathlib.Omega.{arith}
+use lib.IntN.{ℤ-set}
 use lib.ListN.{length, drop}
 use lib.Seq.{drop-append-le}
 use Rattle.std.specs.Of.Vec.{vec-items}
@@ -13,6 +14,7 @@ use Rattle.std.specs.declared.option.Option.{Option}
 use Rattle.std.specs.declared.result.Result.the-variants.{Ok, Err}
 use Rattle.refusal.specs.declared.Refusal.the-variants.{Machine as Unfit}
 use Rattle.std.specs.declared.option.Option.the-variants.{Some, None}
+use Rattle.geometry.proofs.Acts.{same-place}
 use Rattle.geometry.specs.declared.place.Place.{Place}
 use Rattle.geometry.specs.Places.{within, Within}
 use Rattle.program.specs.declared.target.Target.{Target}
@@ -25,6 +27,7 @@ use Rattle.work.specs.Works.{todo, toward, does, happens, row, begun, after, pl
 use Rattle.work.specs.Promises.{Promise}
 use Rattle.work.specs.Ranges.{Small, Near-line, Near, Slow, Ready}
 use Rattle.work.proofs.Promise.{of-safe}
+use Rattle.work.proofs.Ticks.{begins}
 use Rattle.work.proofs.Safety.{Safe, safe-after}
 use Rattle.pulses.specs.declared.Pulses.{Pulses}
 use Rattle.pulses.specs.Motors.{between, pulses}
@@ -93,6 +96,9 @@ pub reached-more : (m : Machine) (ts us : List Target) (w : Work) → fit m ≡ 
 reached-more m ts us w f r = ∥∥₁-map r (λ k. subst (Reached m (ts ++ us)) (sym (k .is)) (more-row m ts us (bounds.range m f .0) (k .events)))
 
 -- the beginning, and a machine that passed its checks
+pub begins-there : (ts : List Target) (w : Work) → w ≡ begun origin → origin ≡ place ts (w .motion)
+begins-there ts w e = sym (ap (λ (v : Work). place ts (v .motion)) e ∙ begins (begun origin .motion) ts refl)
+
 pub reached-first : (m : Machine) (ts : List Target) (w : Work) → w ≡ begun origin → ∥ Reached m ts w ∥₁
 unfolding row
 reached-first m ts w e = ∣ record { events = []; is = e } ∣₁
@@ -109,17 +115,18 @@ module _ (c : Control) where
   abbrev ts : List Target
   ts = vec-items (c .targets)
 
-  pub near-next : (next : Option Target) → next ≡ head-of (todo ts (c .work .motion)) → Near (c .work .motion) next
-  near-next next e = ∥∥₁-elim (c .reached) (near-prop (c .work .motion) next)
-      (λ r. bounds.near-next (c .machine) ts (c .work .motion) (c .fits) (c .close) (safe (c .machine) ts (c .work) (c .fits) r) next e)
-
   pub ready-next : (next : Option Target) → next ≡ head-of (todo ts (c .work .motion)) → Ready (c .machine) (c .work .motion) next
   ready-next next e = ∥∥₁-elim (c .reached) (ready-prop (c .machine) (c .work .motion) next)
       (λ r. bounds.ready-next (c .machine) ts (c .work .motion) (c .fits) (c .close) (safe (c .machine) ts (c .work) (c .fits) r) (omega (arith, c .targets .ok .0, c .targets .small)) next e)
 
-  pub ghosts : (e : Event) (v : Work) → v ≡ happens (c .machine) ts e (c .work)
-      → (fit (c .machine) ≡ true) × ((near ts ≡ true) × (∥ Reached (c .machine) ts v ∥₁ × Unit {0}))
-  ghosts e v h = (c .fits, (c .close, (reached-on (c .machine) ts (c .work) v e (c .reached) h, tt)))
+  -- what a control is, after an event: of one that doesn't move, and of one that leads to another place
+  pub ghosts-at : (e : Event) (v : Work) (p : Place) → v ≡ happens (c .machine) ts e (c .work) → p ≡ place ts (v .motion)
+      → (fit (c .machine) ≡ true) × ((near ts ≡ true) × (∥ Reached (c .machine) ts v ∥₁ × ((p ≡ place ts (v .motion)) × Unit {0})))
+  ghosts-at e v p h k = (c .fits, (c .close, (reached-on (c .machine) ts (c .work) v e (c .reached) h, (k, tt))))
+
+  pub ghosts : (e : Event) (v : Work) → v ≡ happens (c .machine) ts e (c .work) → v .motion ≡ c .work .motion
+      → (fit (c .machine) ≡ true) × ((near ts ≡ true) × (∥ Reached (c .machine) ts v ∥₁ × ((c .at ≡ place ts (v .motion)) × Unit {0})))
+  ghosts e v h k = ghosts-at e v (c .at) h (c .stood ∙ ap (place ts) (sym k))
 
   pub happened : (e : Event) (v : Work) → v ≡ happens (c .machine) ts e (c .work) → Happened (c .machine) ts (c .work) e (c .machine) ts v
   happened e v h = record {
@@ -138,6 +145,11 @@ module _ (c : Control) where
   lands-near e v h = ∥∥₁-elim (reached-on (c .machine) ts (c .work) v e (c .reached) h) (within-prop 4000000000 (place ts (v .motion)))
       (λ r. bounds.place-near (c .machine) ts (v .motion) (c .fits) (c .close) (safe (c .machine) ts v (c .fits) r))
 
+  pub lands-next : (e : Event) (v : Work) → v ≡ happens (c .machine) ts e (c .work) → (next : Option Target)
+      → next ≡ head-of (todo ts (v .motion)) → Near (v .motion) next
+  lands-next e v h next i = ∥∥₁-elim (reached-on (c .machine) ts (c .work) v e (c .reached) h) (near-prop (v .motion) next)
+      (λ r. bounds.near-next (c .machine) ts (v .motion) (c .fits) (c .close) (safe (c .machine) ts v (c .fits) r) next i)
+
   few-prop : (d : Pulses) → IsProp (Few (c .machine) ts (c .work) d)
   few-prop d a b = λ i. record { across = le-prop (a .across) (b .across) i; along = le-prop (a .along) (b .along) i }
 
@@ -149,11 +161,15 @@ module _ (c : Control) where
       → q ≡ place ts (v .motion) → d ≡ between p q → d ≡ pulses (c .machine) ts Tick (c .work)
   gives v p q d h i j k = k ∙ rw (i, j, h)
 
-  -- a target more, or none for want of memory
+  -- a target more, or none for want of memory: it stands where it stood
+  stays : (us : List Target) → place ts (c .work .motion) ≡ place (ts ++ us) (c .work .motion)
+  stays us = same-place (∥∥₁-elim (c .reached) (ℤ-set _ _) (λ r. ap (λ (p : Place). p .x) (bounds.place-more (c .machine) ts us (c .work .motion) (safe (c .machine) ts (c .work) (c .fits) r))))
+      (∥∥₁-elim (c .reached) (ℤ-set _ _) (λ r. ap (λ (p : Place). p .y) (bounds.place-more (c .machine) ts us (c .work .motion) (safe (c .machine) ts (c .work) (c .fits) r))))
+
   pub pushed : (t : Target) (b : Bool) (us : List Target) → within 1000000000 (t .to) ≡ true → us ≡ cond b (ts ++ t ∷ []) ts
-      → (fit (c .machine) ≡ true) × ((near us ≡ true) × (∥ Reached (c .machine) us (c .work) ∥₁ × Unit {0}))
-  pushed t true us k e = rw e (c .fits, (bounds.near-push ts t (c .close) k, (reached-more (c .machine) ts (t ∷ []) (c .work) (c .fits) (c .reached), tt)))
-  pushed t false us k e = rw e (c .fits, (c .close, (c .reached, tt)))
+      → (fit (c .machine) ≡ true) × ((near us ≡ true) × (∥ Reached (c .machine) us (c .work) ∥₁ × ((c .at ≡ place us (c .work .motion)) × Unit {0})))
+  pushed t true us k e = rw e (c .fits, (bounds.near-push ts t (c .close) k, (reached-more (c .machine) ts (t ∷ []) (c .work) (c .fits) (c .reached), (c .stood ∙ stays (t ∷ []), tt))))
+  pushed t false us k e = rw e (c .fits, (c .close, (c .reached, (c .stood, tt))))
 
   pub pushed-promise : (t : Target) (b : Bool) (us : List Target) → within 1000000000 (t .to) ≡ true → us ≡ cond b (ts ++ t ∷ []) ts
       → ∥ Promise (c .machine) origin us (c .work) ∥₁

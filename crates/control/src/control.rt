@@ -3,13 +3,13 @@
 ghost use mathlib.Core.Bool.{true};
 ghost use mathlib.Core.Path.{_≡_};
 ghost use lib.Dec.{leb};
-ghost use lib.ListN.{length};
+ghost use lib.ListN.{drop, length};
 ghost use Rattle.control.specs.Controls.{fit, near, origin, head-of, load-of, Reached, Happened, Added, Few};
 ghost use Rattle.pulses.specs.Motors.{pulses};
 ghost use Rattle.std.specs.Of.Vec.{vec-items};
 ghost use Rattle.std.specs.Results.{Cases};
 ghost use Rattle.std.specs.declared.result.Result.the-variants.{Ok, Err};
-ghost use Rattle.work.specs.Works.{todo, begun, place};
+ghost use Rattle.work.specs.Works.{begun, place};
 ghost use Rattle.work.specs.declared.event.Event.the-variants.{Tick, Hold, Go, Knob};
 use crate::fault::AddError;
 use crate::fault::AddErrorFromRefused;
@@ -26,9 +26,12 @@ pub struct Control {
     machine: Machine,
     targets: Vec<Target>,
     work: Work,
+    // Where it is, so that a tick reckons one place and not two.
+    at: Place,
     ghost fits: { fit machine ≡ true },
     ghost close: { near (vec-items targets) ≡ true },
     ghost reached: { ∥ Reached machine (vec-items targets) work ∥₁ },
+    ghost stood: { at ≡ place (vec-items targets) (work .motion) },
 }
 
 impl Control {
@@ -44,6 +47,7 @@ impl Control {
             machine,
             targets,
             work: Work::begin(Place::ORIGIN),
+            at: Place::ORIGIN,
         })
     }
 
@@ -53,9 +57,16 @@ impl Control {
         ensures pulses { λ r. ⌜ r ≡ pulses (now (self .entry) .machine) (vec-items (now (self .entry) .targets)) Tick (now (self .entry) .work) ⌝ }
         ensures few { λ r. ⌜ Few (now (self .entry) .machine) (vec-items (now (self .entry) .targets)) (now (self .entry) .work) r ⌝ }
     {
-        let before = self.place();
-        self.work = self.work.tick(self.machine, self.next());
-        Pulses::between(before, self.place())
+        let work = self.work.tick(
+            self.machine,
+            target_at(&self.targets, self.work.motion.behind),
+        );
+        let at = work.motion
+            .place(target_at(&self.targets, work.motion.behind));
+        let pulses = Pulses::between(self.at, at);
+        self.work = work;
+        self.at = at;
+        pulses
     }
 
     // Held: it slows as much as may be, and stands.
@@ -98,22 +109,22 @@ impl Control {
         self.targets.len() <= self.work.motion.behind
     }
 
-    // The target that it is on the way to, if any is left.
-    fn next(&self) -> Option<Target>
-        ensures { λ r. ⌜ r ≡ head-of (todo (vec-items (now (self .entry) .targets)) (now (self .entry) .work .motion)) ⌝ }
-    {
-        if self.work.motion.behind < self.targets.len() {
-            return Some(self.targets[self.work.motion.behind]);
-        }
-        None
-    }
-
     // Where it is.
     pub fn place(&self) -> Place
         ensures { λ r. ⌜ r ≡ place (vec-items (now (self .entry) .targets)) (now (self .entry) .work .motion) ⌝ }
     {
-        self.work.motion.place(self.next())
+        self.at
     }
+}
+
+// The target that is next after so many, if any is left.
+fn target_at(targets: &[Target], behind: usize) -> Option<Target>
+    ensures { λ r. ⌜ r ≡ head-of (drop behind (now (targets .entry))) ⌝ }
+{
+    if behind < targets.len() {
+        return Some(targets[behind]);
+    }
+    None
 }
 
 // Whether no target is past 10^9 on an axis.
