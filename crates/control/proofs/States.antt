@@ -7,8 +7,8 @@ use Prim.Native.Nat.{ℕ, zero, suc, _+_, _^_, _≤_, _<_}
 use native.Mathlib.Bridge.{le-prop}
 use native.Mathlib.Omega.{arith}
 use lib.IntN.{ℤ-set}
-use lib.ListN.{length, drop}
-use lib.Seq.{drop-append-le}
+use lib.ListN.{length, drop, getD, drop-of-length-le}
+use lib.Seq.{drop-append-le, drop-cons}
 use Rattle.std.specs.Of.Vec.{vec-items}
 use Rattle.std.specs.declared.option.Option.{Option}
 use Rattle.std.specs.declared.result.Result.the-variants.{Ok, Err}
@@ -23,11 +23,11 @@ use Rattle.work.specs.declared.motion.Motion.{Motion}
 use Rattle.work.specs.declared.work.Work.{Work}
 use Rattle.work.specs.declared.event.Event.{Event}
 use Rattle.work.specs.declared.event.Event.the-variants.{Tick, Hold, Go, Knob}
-use Rattle.work.specs.Works.{todo, toward, does, happens, row, begun, after, place}
+use Rattle.work.specs.Works.{todo, toward, does, happens, row, begun, after, after-tick, place}
 use Rattle.work.specs.Promises.{Promise}
 use Rattle.work.specs.Ranges.{Small, Near-line, Near, Slow, Ready}
 use Rattle.work.proofs.Promise.{of-safe}
-use Rattle.work.proofs.Ticks.{begins}
+use Rattle.work.proofs.Ticks.{begins, lands-after}
 use Rattle.work.proofs.Safety.{Safe, safe-after}
 use Rattle.pulses.specs.declared.Pulses.{Pulses}
 use Rattle.pulses.specs.Motors.{between, pulses}
@@ -174,3 +174,29 @@ module _ (c : Control) where
   pub pushed-promise : (t : Target) (b : Bool) (us : List Target) → within 1000000000 (t .to) ≡ true → us ≡ cond b (ts ++ t ∷ []) ts
       → ∥ Promise (c .machine) origin us (c .work) ∥₁
   pushed-promise t b us k e = ∥∥₁-map (pushed t b us k e .1 .1 .0) (λ r. promise-of (c .machine) us (c .work) (c .fits) r)
+
+  -- a tick toward t, the first of the targets still to go
+  module _ (t : Target) (i : c .work .motion .behind < length ts) (e : t ≡ getD ts (c .work .motion .behind) t) where
+    first : todo ts (c .work .motion) ≡ t ∷ drop (suc (c .work .motion .behind)) ts
+    first = drop-cons ts (c .work .motion .behind) t i ∙ ap (λ (x : Target). x ∷ drop (suc (c .work .motion .behind)) ts) (sym e)
+
+    pub slow-toward : Slow (c .machine) (c .work .motion)
+    slow-toward = ready-next (Some t) (sym (ap head-of first))
+
+    module _ (v : Work) (h : v ≡ does (c .machine) (t ∷ []) Tick (c .work)) where
+      pub ticks : v ≡ happens (c .machine) ts Tick (c .work)
+      unfolding toward
+      ticks = h ∙ sym (ap (λ (xs : List Target). does (c .machine) xs Tick (c .work)) first)
+
+      pub near-toward : v .motion .behind ≡ c .work .motion .behind → Near-line (v .motion) t
+      near-toward k = lands-next Tick v ticks (Some t) (sym (ap (λ (b : ℕ). head-of (drop b ts)) k ∙ ap head-of first))
+
+      pub lands-at : (p : Place) → p ≡ after-tick (v .motion) (c .work .motion .behind) t → p ≡ place ts (v .motion)
+      lands-at p k =
+          k ∙ ap (λ (u : Work). after-tick (u .motion) (c .work .motion .behind) t) ticks
+          ∙ lands-after (c .machine) (c .work .panel) ts (c .work .motion) t _ first ∙ sym (ap (λ (u : Work). place ts (u .motion)) ticks)
+
+  -- with none left a tick does nothing
+  pub idles : length ts ≤ c .work .motion .behind → c .work ≡ happens (c .machine) ts Tick (c .work)
+  unfolding toward
+  idles i = sym (ap (λ (xs : List Target). does (c .machine) xs Tick (c .work)) (drop-of-length-le ts i))

@@ -3,8 +3,8 @@
 ghost use mathlib.Core.Bool.{true};
 ghost use mathlib.Core.Path.{_≡_};
 ghost use lib.Dec.{leb};
-ghost use lib.ListN.{drop, length};
-ghost use Rattle.control.specs.Controls.{fit, near, origin, head-of, load-of, Reached, Happened, Added, Few};
+ghost use lib.ListN.{length};
+ghost use Rattle.control.specs.Controls.{fit, near, origin, load-of, Reached, Happened, Added, Few};
 ghost use Rattle.pulses.specs.Motors.{pulses};
 ghost use Rattle.std.specs.Of.Vec.{vec-items};
 ghost use Rattle.std.specs.Results.{Cases};
@@ -57,12 +57,13 @@ impl Control {
         ensures pulses { λ r. ⌜ r ≡ pulses (now (self .entry) .machine) (vec-items (now (self .entry) .targets)) Tick (now (self .entry) .work) ⌝ }
         ensures few { λ r. ⌜ Few (now (self .entry) .machine) (vec-items (now (self .entry) .targets)) (now (self .entry) .work) r ⌝ }
     {
-        let work = self.work.tick(
-            self.machine,
-            target_at(&self.targets, self.work.motion.behind),
-        );
-        let at = work.motion
-            .place(target_at(&self.targets, work.motion.behind));
+        let behind = self.work.motion.behind;
+        if behind >= self.targets.len() {
+            return Pulses { x: 0, y: 0 };
+        }
+        let target = self.targets[behind];
+        let work = self.work.tick_toward(self.machine, target);
+        let at = work.motion.place_after(behind, target);
         let pulses = Pulses::between(self.at, at);
         self.work = work;
         self.at = at;
@@ -115,16 +116,6 @@ impl Control {
     {
         self.at
     }
-}
-
-// The target that is next after so many, if any is left.
-fn target_at(targets: &[Target], behind: usize) -> Option<Target>
-    ensures { λ r. ⌜ r ≡ head-of (drop behind (now (targets .entry))) ⌝ }
-{
-    if behind < targets.len() {
-        return Some(targets[behind]);
-    }
-    None
 }
 
 // Whether no target is past 10^9 on an axis.

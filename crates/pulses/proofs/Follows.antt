@@ -25,7 +25,7 @@ same-pulses e f = λ i. record { x = e i; y = f i }
 onto-between : (p q : Place) → onto p (between p q) ≡ q
 onto-between p q = same-place (omega (arith, ints)) (omega (arith, ints))
 
-still : (p : Place) → between p p ≡ record { x = pos 0; y = pos 0 }
+pub still : (p : Place) → between p p ≡ record { x = pos 0; y = pos 0 }
 still p = same-pulses (omega (arith, ints)) (omega (arith, ints))
 
 follows : (m : Machine) (ts : List Target) (p : Place) (es : List Event) → motor p (given m ts p es) ≡ place ts (after m ts p es .motion)

@@ -19,6 +19,9 @@ pub fn stopping_distance(change: u64, speed: u64) -> u64
     requires { ⌜ 1 ≤ change ⌝ ∗ ⌜ speed < 2 ^ 32 ⌝ }
     ensures { λ r. ⌜ r ≡ stopping change speed ⌝ }
 {
+    if speed <= change {
+        return 0;
+    }
     let terms = speed / change;
     terms * speed - change * (terms * (terms + 1)) / 2
 }

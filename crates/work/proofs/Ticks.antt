@@ -5,7 +5,7 @@ use mathlib.Core.List.{List, [], _∷_}
 use mathlib.Core.Logic.{_⊎_, inl, inr, ⊎-elim}
 use Prim.Native.Nat.{ℕ, zero, suc, _+_, _-_, _*_, _≤_, _<_, max}
 use native.Mathlib.Omega.{arith}
-use borrow.Author.Tests.{le-leb, lt-leb}
+use borrow.Author.Tests.{le-leb, lt-leb, eq-eqb, ne-eqb}
 use lib.Dec.{leb}
 use lib.ListN.{length, drop}
 use lib.IntN.{ℤ, pos, _-ℤ_, natAbs}
@@ -22,7 +22,7 @@ use Rattle.speed.proofs.Fastest.{next}
 use Rattle.work.specs.declared.machine.Machine.{Machine}
 use Rattle.work.specs.declared.motion.Motion.{Motion}
 use Rattle.work.specs.declared.panel.Panel.{Panel}
-use Rattle.work.specs.Works.{limit, steps, arrive, advance, todo, toward, tick, stands, place}
+use Rattle.work.specs.Works.{limit, steps, arrive, advance, todo, toward, tick, stands, after-tick, place}
 use Rattle.work.specs.Promises.{Can-stop, made, cap-now, Goes-on, Ends-line, Moved, Ticked}
 use Rattle.work.proofs.Lists.{next-todo}
 
@@ -32,6 +32,12 @@ gone-on w n = record { behind = w .behind; from = w .from; done = w .done + n; s
 
 abbrev pub at-end : Motion → Target → Motion
 at-end w t = record { behind = suc (w .behind); from = t .to; done = 0; speed = 0 }
+
+-- where a line has just begun, it stands at its beginning
+pub begins : (w : Motion) (xs : List Target) → w .done ≡ 0 → stands w xs ≡ w .from
+unfolding stands
+begins w [] e = refl
+begins w (t ∷ us) e = ap (on-line (w .from) (t .to)) e ∙ starts (w .from) (t .to)
 
 module _ (m : Machine) (q : Panel) (ts : List Target) (w : Motion) where
   pub none : todo ts w ≡ [] → tick m q ts w ≡ w
@@ -47,11 +53,12 @@ module _ (m : Machine) (q : Panel) (ts : List Target) (w : Motion) where
     unfolding toward
     ending h = ap (toward m q w) e ∙ rw (le-leb _ _ h)
 
--- where a line has just begun, it stands at its beginning
-pub begins : (w : Motion) (xs : List Target) → w .done ≡ 0 → stands w xs ≡ w .from
-unfolding stands
-begins w [] e = refl
-begins w (t ∷ us) e = ap (on-line (w .from) (t .to)) e ∙ starts (w .from) (t .to)
+    pub lands-after : after-tick (tick m q ts w) (w .behind) t ≡ place ts (tick m q ts w)
+    unfolding stands
+    lands-after = elim (cases-lt (w .done + steps (m .change) (limit m q (t .fast)) w t) (long (w .from) (t .to))) [
+      | inl h ↦ rw (going h, eq-eqb (w .behind) (w .behind) refl) (sym (ap (stands (gone-on w (steps (m .change) (limit m q (t .fast)) w t))) e))
+      | inr h ↦ rw (ending h, ne-eqb (suc (w .behind)) (w .behind) (omega arith)) (sym (begins (at-end w t) (todo ts (at-end w t)) refl))
+    ]
 
 -- a tick on the way to t, with n its steps, from where it can stop
 module _ (m : Machine) (q : Panel) (ts : List Target) (w : Motion) (p : 1 ≤ m .change) (t : Target) (us : List Target) (e : todo ts w ≡ t ∷ us) (s : Can-stop (m .change) w (t ∷ us)) where

@@ -15,11 +15,12 @@
 --   begun p              work that begins at p: not held, the knob at 100, speed 0
 --   after m ts p es      what a row of events leads to from the beginning
 --   stands w xs          where it is, with the targets xs still to go
+--   after-tick w b t     where it is after a tick toward t that began with b targets behind
 --   place ts w           where it is along the targets ts
 use mathlib.Core.Bool.{Bool, true, false, cond}
 use mathlib.Core.List.{List, [], _∷_}
 use Prim.Native.Nat.{ℕ, zero, suc, _+_, _-_, _*_, _/_, min}
-use lib.Dec.{leb}
+use lib.Dec.{leb, eqb}
 use lib.ListN.{drop}
 use Rattle.geometry.specs.declared.place.Place.{Place}
 use Rattle.program.specs.declared.target.Target.{Target}
@@ -95,6 +96,9 @@ after m ts p es = row m ts es (begun p)
 unfoldable pub stands : Motion → List Target → Place
 stands w [] = w .from
 stands w (t ∷ ts) = on-line (w .from) (t .to) (w .done)
+
+abbrev pub after-tick : Motion → ℕ → Target → Place
+after-tick w b t = cond (eqb (w .behind) b) (on-line (w .from) (t .to) (w .done)) (w .from)
 
 abbrev pub place : List Target → Motion → Place
 place ts w = stands w (todo ts w)

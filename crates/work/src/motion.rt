@@ -4,8 +4,8 @@ ghost use mathlib.Core.Path.{_≡_};
 ghost use Prim.Native.Nat.{_+_, _<_, _^_};
 ghost use Rattle.line.specs.Lines.{long};
 ghost use Rattle.std.specs.Vec.{listOf};
-ghost use Rattle.work.specs.Ranges.{Small, Near};
-ghost use Rattle.work.specs.Works.{begun-at, arrive, advance, stands};
+ghost use Rattle.work.specs.Ranges.{Small, Near-line, Near};
+ghost use Rattle.work.specs.Works.{begun-at, arrive, advance, after-tick, stands};
 use geometry::Place;
 use line::Line;
 use program::Target;
@@ -62,6 +62,21 @@ impl Motion {
             speed,
             ..self
         }
+    }
+
+    // Where it is after a tick on the way to a target, with so many targets behind it before.
+    pub fn place_after(self, behind: usize, target: Target) -> Place
+        requires near { ⌜ (self .behind ≡ behind → Near-line self target) ⌝ }
+        ensures { λ r. ⌜ r ≡ after-tick self behind target ⌝ }
+    {
+        if self.behind != behind {
+            return self.from;
+        }
+        let line = Line {
+            from: self.from,
+            to: target.to,
+        };
+        line.place(self.done)
     }
 
     // Where it is, on the way to a target or with none left.

@@ -1,7 +1,8 @@
 // Work: the motion and the panel. Each method takes it by value and gives it back.
+ghost use mathlib.Core.List.{[], _∷_};
 ghost use mathlib.Core.Path.{_≡_};
 ghost use Rattle.std.specs.Vec.{listOf};
-ghost use Rattle.work.specs.Ranges.{Ready};
+ghost use Rattle.work.specs.Ranges.{Slow, Ready};
 ghost use Rattle.work.specs.Works.{begun, held, let-go, turned-to, does};
 ghost use Rattle.work.specs.declared.event.Event.the-variants.{Tick};
 use crate::event::Event;
@@ -31,6 +32,21 @@ impl Work {
         }
     }
 
+    // A tick on the way to a target.
+    pub fn tick_toward(self, machine: Machine, target: Target) -> Work
+        requires slow { ⌜ Slow machine (self .motion) ⌝ }
+        ensures { λ r. ⌜ r ≡ does machine (target ∷ []) Tick self ⌝ }
+    {
+        Work {
+            motion: self.motion.advance(
+                machine.change,
+                self.panel.cap(machine, target.fast),
+                target,
+            ),
+            ..self
+        }
+    }
+
     // A tick, on the way to the next target; with none left nothing moves.
     pub fn tick(self, machine: Machine, next: Option<Target>) -> Work
         requires ready { ⌜ Ready machine (self .motion) next ⌝ }
@@ -38,14 +54,7 @@ impl Work {
     {
         match next {
             None => self,
-            Some(target) => Work {
-                motion: self.motion.advance(
-                    machine.change,
-                    self.panel.cap(machine, target.fast),
-                    target,
-                ),
-                ..self
-            },
+            Some(target) => self.tick_toward(machine, target),
         }
     }
 

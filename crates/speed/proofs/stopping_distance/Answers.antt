@@ -1,8 +1,12 @@
+use mathlib.Core.Path.{sym}
 use Prim.Native.Nat.{_+_}
 use native.Mathlib.Omega.{arith}
 use Rattle.std.proofs.shelf.Bits.{mul-le}
-use Rattle.speed.proofs.Stopping.{by-quotient, products}
+use Rattle.speed.proofs.Stopping.{slow, by-quotient, products}
 use Rattle.speed.proofs.stopping_distance.Needs as need
+
+pub returns-then-speed-change : need.returns-then-speed-change
+returns-then-speed-change c = sym (slow (c .args .change) (c .args .speed) (c .if-speed-change .taken))
 
 pub mul-result-3 : need.mul-result-3
 mul-result-3 c =

@@ -6,5 +6,4 @@ unfolding toward
 returns-in-None c = rw (c .in-None .is)
 
 pub returns-in-Some : need.returns-in-Some
-unfolding toward
-returns-in-Some c = rw (c .in-Some .is, c .advance .ensures, c .«cap» .ensures)
+returns-in-Some c = rw (c .in-Some .is) (c .tick-toward .ensures)
