@@ -5,8 +5,8 @@ use mathlib.Core.List.{List, [], _∷_, _++_}
 use Prim.Native.Nat.{ℕ, zero, suc, _+_, _-_, _*_, _^_, _≤_, _<_, max}
 use native.Mathlib.Omega.{arith}
 use lib.Dec.{leb}
-use lib.ListN.{length, drop, getD, drop-of-length-le}
-use lib.Seq.{drop-append-le, drop-cons}
+use lib.ListN.{length, drop}
+use lib.Seq.{drop-append-le}
 use lib.IntN.{natAbs}
 use Rattle.std.proofs.shelf.Signed.{ints}
 use Rattle.std.proofs.shelf.Tests.{and-parts}
@@ -52,13 +52,6 @@ pub near-push : (ts : List Target) (t : Target) → near ts ≡ true → within 
 unfolding near
 near-push [] t h k = ap (λ (b : Bool). b && true) k
 near-push (x ∷ ts) t h k = ap (λ (b : Bool). b && near (ts ++ t ∷ [])) (and-parts _ _ h .0) ∙ near-push ts t (and-parts _ _ h .1) k
-
--- the target at a place of the list is the first of those still to go there
-pub head-at : (ts : List Target) (b : ℕ) (d : Target) → b < length ts → Some (getD ts b d) ≡ head-of (drop b ts)
-head-at ts b d h = sym (ap head-of (drop-cons ts b d h))
-
-pub head-none : (ts : List Target) (b : ℕ) → length ts ≤ b → None ≡ head-of (drop b ts)
-head-none ts b h = sym (ap head-of (drop-of-length-le ts h))
 
 -- an event, and where it is, see no more than the first of the targets still to go
 does-head : (m : Machine) (xs : List Target) (e : Event) (w : Work) → does m (listOf (head-of xs)) e w ≡ does m xs e w
