@@ -19,7 +19,7 @@ use Rattle.pulses.specs.Motors.{pulses}
 use Rattle.entry.specs.declared.done.Done.{Done}
 use Rattle.entry.specs.declared.done.Done.the-variants.{Moved, Turned}
 use Rattle.entry.specs.Entries.{targets-in, work-in, Done-says}
-use Rattle.ffi.specs.Calls.{code, said-place, place-after, moved-after, memory-after}
+use Rattle.ffi.specs.Calls.{code-of, said-place, place-after, moved-after, memory-after}
 
 abbrev said-code : Said → ℕ
 said-code (Says n) = 0
@@ -30,7 +30,7 @@ said-at (Says n) = n ∷ []
 said-at (Refused e) = place e ∷ []
 
 pub record Said-told (r : Option Refusal) (ts : List Target) (s : Said) : Type 0 where
-  pub code-is : said-code s ≡ code r
+  pub code-is : said-code s ≡ code-of r
   pub place-is : said-at s ≡ said-place r (length ts)
 
 pub said-told : (r : Option Refusal) (ts : List Target) (s : Said) → s ≡ answer r ts → Said-told r ts s
@@ -50,9 +50,9 @@ done-moved old (Moved x y) = x ∷ (y ∷ [])
 done-moved old (Turned e) = old
 
 pub record Done-told (r : Option Refusal) (m : Machine) (targets memory : List ℤ) (x : Event) (at : List ℕ) (moved : List ℤ) (d : Done) (left : List ℤ) : Type 0 where
-  pub code-is : done-code d ≡ code r
+  pub code-is : done-code d ≡ code-of r
   pub place-is : done-at at d ≡ place-after r at
-  pub moved-is : done-moved moved d ≡ moved-after r (pulses m (targets-in targets) x (work-in memory)) moved
+  pub moved-is : done-moved moved d ≡ moved-after r (pulses m (targets-in targets) x (work-in memory) .x) (pulses m (targets-in targets) x (work-in memory) .y) moved
   pub memory-is : left ≡ memory-after r (happens m (targets-in targets) x (work-in memory)) memory
 
 pub done-told : (r : Option Refusal) (m : Machine) (targets memory : List ℤ) (x : Event) (at : List ℕ) (moved : List ℤ) (d : Done) (left : List ℤ)
