@@ -6,7 +6,7 @@ mod compare;
 use checks::plain::{Mistake, Rules};
 use checks::proved::Program;
 use checks::random::Random;
-use compare::{Compared, happen, say, scripts, search, tables, texts};
+use compare::{Compared, happen, runs, say, scripts, search, tables, texts};
 use std::path::Path;
 use std::process::ExitCode;
 use std::time::Instant;
@@ -60,6 +60,7 @@ fn all(rules: Rules, programs: &Programs, seed: u64, cases: u64) -> Vec<Named> {
         ("programs in numbers", say::compare(rules, &mut fresh(1), cases)),
         ("events on any memory", happen::compare_raw(rules, &mut fresh(2), cases)),
         ("events in rows", happen::compare_rows(rules, &mut fresh(3), cases)),
+        ("programs run", runs::compare(rules, &mut fresh(6), cases / 10)),
     ];
     if let Some(targets) = &programs.targets {
         done.push(("texts", texts::compare(rules, targets, &mut fresh(4), cases / 50)));

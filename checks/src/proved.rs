@@ -21,6 +21,17 @@ unsafe extern "C" {
         moved: *mut i64,
         place: *mut u64,
     ) -> u64;
+
+    fn mill_run(
+        change: u64,
+        top: u64,
+        nodes: *const i64,
+        nodes_len: usize,
+        most: u64,
+        count: u64,
+        moved: *mut i64,
+        at: *mut u64,
+    ) -> u64;
 }
 
 /// The targets that a program says, written into the room: how many, or the refusal.
@@ -58,6 +69,17 @@ pub fn happen(
         )
     };
     if code == 0 { Ok(()) } else { Err(Refused(code, place[0])) }
+}
+
+/// A program loaded and run for so many ticks: where it is then.
+pub fn run(machine: Machine, nodes: &[i64], most: u64, count: u64) -> Result<[i64; 2], Refused> {
+    let (mut moved, mut at) = ([0; 2], [0]);
+    // SAFETY: the first pointer goes with the length of its slice, and the others are to arrays of two and one.
+    let code = unsafe {
+        let (numbers, length) = (nodes.as_ptr(), nodes.len());
+        mill_run(machine.change, machine.top, numbers, length, most, count, moved.as_mut_ptr(), at.as_mut_ptr())
+    };
+    if code == 0 { Ok(moved) } else { Err(Refused(code, at[0])) }
 }
 
 /// A program that reads standard input and writes standard output.

@@ -1,6 +1,7 @@
 //! Events on lent numbers: raw memories that no run reaches, and rows of events from a fresh work.
 
 use super::{Compared, same};
+use checks::fast::control as fast;
 use checks::plain::work::{Machine, Work};
 use checks::plain::{Refused, Rules};
 use checks::proved;
@@ -17,7 +18,7 @@ struct Case {
     number: u64,
 }
 
-fn machine(random: &mut Random) -> Machine {
+pub fn machine(random: &mut Random) -> Machine {
     let one = |random: &mut Random| match random.below(40) {
         0 => random.pick(&[0, 1_000_001, u64::MAX]),
         1..=3 => 1_000_000,
@@ -47,7 +48,7 @@ fn axis(random: &mut Random, last: i64) -> i64 {
     }
 }
 
-fn fast(random: &mut Random) -> i64 {
+fn speed(random: &mut Random) -> i64 {
     match random.below(12) {
         0 => random.pick(&[i64::MAX, i64::MIN, 0, -1]),
         1..=4 => random.between(0, 9),
@@ -61,7 +62,7 @@ fn targets(random: &mut Random) -> Vec<i64> {
     let mut numbers = Vec::new();
     for _ in 0..count {
         (x, y) = (axis(random, x), axis(random, y));
-        numbers.extend([x, y, fast(random)]);
+        numbers.extend([x, y, speed(random)]);
     }
     if random.one_in(40) {
         numbers.push(7);
@@ -128,6 +129,10 @@ fn both(rules: Rules, case: &mut Case) -> Result<Option<Refused>, String> {
     };
     same("the memory after happen", &before, &case.memory, &memory)?;
     same("the pulses of happen", &before, moved, pulses)?;
+    let (mut memory, mut moved) = (before.memory.clone(), untouched);
+    let machine = fast::Machine { change: case.machine.change, top: case.machine.top };
+    let quick = fast::happen(machine, &before.targets, &mut memory, case.kind, case.number, &mut moved);
+    same("the quick plain happen", &before, (quick, &memory, moved), (proved, &case.memory, pulses))?;
     Ok(proved.err())
 }
 

@@ -4,6 +4,7 @@
 pub mod damage;
 pub mod happen;
 pub mod processes;
+pub mod runs;
 pub mod say;
 pub mod scripts;
 pub mod search;

@@ -1,7 +1,7 @@
 //! Programs in numbers, valid and damaged.
 
 use super::{Compared, same};
-use checks::fast;
+use checks::fast::program as fast;
 use checks::plain::{Refused, Rules, Target};
 use checks::proved;
 use checks::random::Random;
@@ -46,7 +46,7 @@ fn node(random: &mut Random, i: usize) -> [i64; 4] {
     }
 }
 
-fn valid(random: &mut Random) -> Vec<i64> {
+pub fn valid(random: &mut Random) -> Vec<i64> {
     let nodes = match random.below(60) {
         0 => random.between(1000, 1024),
         1..=5 => random.between(30, 200),

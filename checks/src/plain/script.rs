@@ -7,7 +7,7 @@ use super::{Mistake, Refused, Rules, Target};
 const REACH: u64 = 1_000_000_000;
 
 #[derive(Clone, Copy, PartialEq, Eq, Debug)]
-enum Order {
+pub enum Order {
     Machine(Machine),
     To(Target),
     Ticks(u64),
@@ -31,15 +31,17 @@ fn order(words: &[&[u8]]) -> Option<Order> {
 }
 
 /// The orders of a script, one a line, the machine first and only there; or the line that can't be read.
-fn orders(text: &[u8]) -> Result<Vec<Order>, u64> {
+pub fn orders(text: &[u8]) -> Result<Vec<Order>, u64> {
     let mut orders = Vec::new();
     let lines: Vec<&[u8]> = text.split(|&b| b == b'\n').collect();
     for (i, line) in lines.iter().enumerate() {
-        let words: Vec<&[u8]> = line.split(|b| b" \t\r".contains(b)).filter(|w| !w.is_empty()).collect();
-        if words.is_empty() {
+        let mut words: [&[u8]; 6] = [b""; 6];
+        let found = line.split(|&b| b == b' ' || b == b'\t' || b == b'\r').filter(|word| !word.is_empty());
+        let count = found.zip(&mut words).map(|(word, slot)| *slot = word).count();
+        if count == 0 {
             continue;
         }
-        let order = order(&words).ok_or(i as u64)?;
+        let order = order(&words[..count]).ok_or(i as u64)?;
         if matches!(order, Order::Machine(_)) != orders.is_empty() {
             return Err(i as u64);
         }
@@ -49,7 +51,7 @@ fn orders(text: &[u8]) -> Result<Vec<Order>, u64> {
 }
 
 /// Everything is checked before the first pulse: the machine, then the targets, then the knob.
-fn check(orders: &[Order]) -> Result<Machine, Refused> {
+pub fn check(orders: &[Order]) -> Result<Machine, Refused> {
     let Order::Machine(machine) = orders[0] else { unreachable!("the machine is first") };
     machine.check()?;
     let far = |n: i64| n.unsigned_abs() > REACH;

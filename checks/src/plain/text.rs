@@ -10,22 +10,30 @@ struct Word<'a> {
     line: u64,
 }
 
-/// The longest runs of bytes other than white space and `;` `{` `}`, and each of those three by itself.
-fn words(text: &[u8]) -> Vec<Word<'_>> {
-    let mut words = Vec::new();
-    let (mut i, mut line) = (0, 0);
-    while i < text.len() {
-        let single = |b: u8| b" \t\r\n;{}".contains(&b);
-        let run = text[i..].iter().take_while(|&&b| !single(b)).count().max(1);
-        let bytes = &text[i..i + run];
-        match bytes[0] {
-            b' ' | b'\t' | b'\r' => {}
-            b'\n' => line += 1,
-            _ => words.push(Word { bytes, line }),
+/// The words of a text: the longest runs of bytes other than white space and `;` `{` `}`, and each of those three by
+/// itself.
+struct Words<'a> {
+    text: &'a [u8],
+    line: u64,
+}
+
+impl<'a> Iterator for Words<'a> {
+    type Item = Word<'a>;
+
+    fn next(&mut self) -> Option<Word<'a>> {
+        loop {
+            let line = self.line;
+            let alone = |b: &u8| matches!(b, b' ' | b'\t' | b'\r' | b'\n' | b';' | b'{' | b'}');
+            let run = self.text.iter().position(alone).unwrap_or(self.text.len());
+            let (bytes, rest) = self.text.split_at_checked(run.max(1))?;
+            self.text = rest;
+            match bytes {
+                b" " | b"\t" | b"\r" => {}
+                b"\n" => self.line += 1,
+                _ => return Some(Word { bytes, line }),
+            }
         }
-        i += run;
     }
-    words
 }
 
 /// A number: `-` at most once, then digits; past 64 bits it is cut to the ends of i64.
@@ -37,12 +45,13 @@ pub fn number(word: &[u8]) -> Option<i64> {
     if digits.is_empty() || !digits.iter().all(u8::is_ascii_digit) {
         return None;
     }
-    let mut value = 0i128;
+    let mut value = 0u64;
     for digit in digits {
-        value = (10 * value + i128::from(digit - b'0')).min(1 << 100);
+        value = value.saturating_mul(10).saturating_add(u64::from(digit - b'0'));
     }
-    let value = if negative { -value } else { value };
-    Some(value.clamp(i128::from(i64::MIN), i128::from(i64::MAX)) as i64)
+    let cut = i64::try_from(value).unwrap_or(i64::MAX);
+    let below = value > i64::MAX as u64;
+    Some(if negative && below { i64::MIN } else if negative { -cut } else { cut })
 }
 
 /// What a block becomes at its end.
@@ -62,7 +71,7 @@ struct Block {
 }
 
 struct Reader<'a> {
-    words: std::vec::IntoIter<Word<'a>>,
+    words: Words<'a>,
     /// The line feeds of the whole text.
     end: u64,
     nodes: Vec<[i64; 4]>,
@@ -73,6 +82,7 @@ struct Reader<'a> {
     begun: bool,
 }
 
+/// What was read, or the line that can't be.
 type Read<T> = Result<T, u64>;
 
 impl<'a> Reader<'a> {
@@ -193,19 +203,23 @@ impl<'a> Reader<'a> {
         if self.open[0].so_far.is_none() {
             self.node([0, 0, 0, 0]);
         }
-        Ok(self.nodes.concat())
+        Ok(self.nodes.into_flattened())
     }
+}
+
+/// The nodes of a text, or the line that can't be read.
+pub fn read(text: &[u8]) -> Read<Vec<i64>> {
+    let end = text.iter().filter(|&&b| b == b'\n').count() as u64;
+    let program = Block { opened: Opened::Program, so_far: None };
+    let words = Words { text, line: 0 };
+    Reader { words, end, nodes: vec![], subs: vec![], open: vec![program], begun: false }.text()
 }
 
 impl Rules {
     /// The nodes of a text.
     pub fn read(self, text: &[u8]) -> Result<Vec<i64>, Refused> {
-        let end = text.iter().filter(|&&b| b == b'\n').count() as u64;
-        let program = Block { opened: Opened::Program, so_far: None };
-        let words = words(text).into_iter();
-        let reader = Reader { words, end, nodes: vec![], subs: vec![], open: vec![program], begun: false };
         let from_one = u64::from(self.mistake == Mistake::LinesFromOne);
-        reader.text().map_err(|line| Refused(9, line + from_one))
+        read(text).map_err(|line| Refused(9, line + from_one))
     }
 
     /// What the program `targets` prints of a text.

@@ -1,18 +1,7 @@
-//! The same control in plain Rust, written to be quick: what the proved one is timed beside.
+//! What programs in numbers say.
 
+use super::{Place, size};
 use crate::plain::Refused;
-
-const REACH: u64 = 1_000_000_000;
-
-fn size(n: i64) -> u64 {
-    if n < 0 { 0 } else { n as u64 }
-}
-
-#[derive(Clone, Copy)]
-struct Place {
-    x: i64,
-    y: i64,
-}
 
 /// How a frame's places are seen from outside: each axis goes along `ax`, `ay` from the frame's origin.
 #[derive(Clone, Copy)]
@@ -23,7 +12,7 @@ struct Frame {
 }
 
 impl Frame {
-    const OUTSIDE: Frame = Frame { origin: Place { x: 0, y: 0 }, ax: Place { x: 1, y: 0 }, ay: Place { x: 0, y: 1 } };
+    const OUTSIDE: Frame = Frame { origin: Place::ORIGIN, ax: Place { x: 1, y: 0 }, ay: Place { x: 0, y: 1 } };
 
     fn way(self, x: i64, y: i64) -> Place {
         Place { x: self.ax.x * x + self.ay.x * y, y: self.ax.y * x + self.ay.y * y }
@@ -82,7 +71,7 @@ struct Walk<'a> {
 
 impl Walk<'_> {
     fn go(&mut self, to: Place, fast: i64) {
-        if self.far.is_none() && (to.x.unsigned_abs() > REACH || to.y.unsigned_abs() > REACH) {
+        if self.far.is_none() && to.is_far() {
             self.far = Some(self.said as u64);
         }
         self.room[3 * self.said..3 * self.said + 3].copy_from_slice(&[to.x, to.y, fast.max(0)]);
@@ -115,10 +104,15 @@ impl Walk<'_> {
     }
 }
 
+/// How many targets a program says, at most so many.
+pub fn count(nodes: &[i64], most: u64) -> Result<u64, Refused> {
+    Ok(counted(nodes, most)?[nodes.len() / 4 - 1])
+}
+
 /// The targets that a program says, into the room, whose numbers are lost where a target is too far.
 pub fn say(nodes: &[i64], room: &mut [i64]) -> Result<u64, Refused> {
     let counts = counted(nodes, room.len() as u64 / 3)?;
-    let mut walk = Walk { nodes, counts, room, said: 0, here: Place { x: 0, y: 0 }, far: None };
+    let mut walk = Walk { nodes, counts, room, said: 0, here: Place::ORIGIN, far: None };
     walk.node(nodes.len() / 4 - 1, Frame::OUTSIDE);
     match walk.far {
         Some(target) => Err(Refused(5, target)),
