@@ -110,7 +110,8 @@ pub fn compare(rules: Rules, random: &mut Random, cases: u64) -> Compared {
         same("what say answers", &shown, proved, plain.as_ref().map(|t| t.len() as u64).map_err(|r| *r))?;
         let after = room_after(plain.as_deref().unwrap_or(&[]), &before);
         same("the room after say", &shown, &room, &after)?;
-        same("the fast plain say", &shown, fast::say(&nodes, &mut before.clone()), proved)?;
+        let mut quick = before.clone();
+        same("the quick plain say", &shown, (fast::say(&nodes, &mut quick), quick), (proved, room))?;
         refusals[proved.err().map_or(0, |r| r.0) as usize] += 1;
     }
     match refusals.iter().position(|&n| n == 0) {

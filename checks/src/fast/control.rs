@@ -9,24 +9,14 @@ pub struct Machine {
     pub top: u64,
 }
 
-#[derive(Clone, Copy)]
-struct Motion {
+/// Work, with its fields changed in place.
+struct Work {
     behind: usize,
     from: Place,
     done: u64,
     speed: u64,
-}
-
-#[derive(Clone, Copy)]
-struct Panel {
     held: bool,
     percent: u32,
-}
-
-#[derive(Clone, Copy)]
-struct Work {
-    motion: Motion,
-    panel: Panel,
 }
 
 /// The way that is still made from a speed, slowed as much as may be.
@@ -57,92 +47,87 @@ fn next_speed(change: u64, cap: u64, left: u64, speed: u64) -> u64 {
     good
 }
 
-fn share(way: i64, n: u64, length: u64) -> i64 {
-    let steps = ((2 * way.unsigned_abs() * n + length) / (2 * length)) as i64;
-    if way < 0 { -steps } else { steps }
+/// Where an axis is after n steps; the longer axis and one that stands need no quotient.
+fn along(from: i64, to: i64, n: u64, length: u64) -> i64 {
+    let way = from.abs_diff(to);
+    let made = if way == 0 {
+        0
+    } else if way == length {
+        n
+    } else {
+        (2 * way * n + length) / (2 * length)
+    };
+    if to < from { from - made as i64 } else { from + made as i64 }
 }
 
-impl Motion {
-    fn length(self, to: Place) -> u64 {
-        self.from.x.abs_diff(to.x).max(self.from.y.abs_diff(to.y))
-    }
-
-    fn place(self, next: Option<Target>) -> Place {
-        let Some(target) = next else { return self.from };
-        let to = Place { x: target.x, y: target.y };
-        let length = self.length(to);
-        if length == 0 {
-            return self.from;
-        }
-        let x = self.from.x + share(to.x - self.from.x, self.done, length);
-        let y = self.from.y + share(to.y - self.from.y, self.done, length);
-        Place { x, y }
-    }
+fn length(from: Place, to: Place) -> u64 {
+    from.x.abs_diff(to.x).max(from.y.abs_diff(to.y))
 }
 
 impl Work {
-    const FRESH: Work = Work {
-        motion: Motion { behind: 0, from: Place::ORIGIN, done: 0, speed: 0 },
-        panel: Panel { held: false, percent: 100 },
-    };
+    const FRESH: Work = Work { behind: 0, from: Place::ORIGIN, done: 0, speed: 0, held: false, percent: 100 };
 
-    fn tick(self, machine: Machine, next: Option<Target>) -> Work {
-        let Some(target) = next else { return self };
-        let Motion { behind, from, done, speed } = self.motion;
+    fn place(&self, next: Option<&Target>) -> Place {
+        let Some(target) = next else { return self.from };
         let to = Place { x: target.x, y: target.y };
-        let length = self.motion.length(to);
-        let most = machine.top.min(target.fast) * u64::from(self.panel.percent) / 100;
-        let cap = if self.panel.held { 0 } else { most };
-        let speed = next_speed(machine.change, cap, length.saturating_sub(done), speed);
-        let motion = if done + speed >= length {
-            Motion { behind: behind + 1, from: to, done: 0, speed: 0 }
-        } else {
-            Motion { behind, from, done: done + speed, speed }
-        };
-        Work { motion, ..self }
+        let length = length(self.from, to);
+        Place { x: along(self.from.x, to.x, self.done, length), y: along(self.from.y, to.y, self.done, length) }
+    }
+
+    /// A tick towards a target; answers where it is then.
+    fn tick(&mut self, machine: Machine, target: &Target) -> Place {
+        let to = Place { x: target.x, y: target.y };
+        let length = length(self.from, to);
+        let most = machine.top.min(target.fast) * u64::from(self.percent) / 100;
+        let cap = if self.held { 0 } else { most };
+        self.speed = next_speed(machine.change, cap, length.saturating_sub(self.done), self.speed);
+        self.done += self.speed;
+        if self.done < length {
+            return Place { x: along(self.from.x, to.x, self.done, length), y: along(self.from.y, to.y, self.done, length) };
+        }
+        *self = Work { behind: self.behind + 1, from: to, done: 0, speed: 0, held: self.held, percent: self.percent };
+        to
     }
 }
 
+/// A loaded control, which keeps the place from tick to tick.
 pub struct Control {
     machine: Machine,
     targets: Vec<Target>,
     work: Work,
+    place: Place,
 }
 
 impl Control {
     pub fn new(machine: Machine, targets: Vec<Target>) -> Control {
-        Control { machine, targets, work: Work::FRESH }
+        Control { machine, targets, work: Work::FRESH, place: Place::ORIGIN }
     }
 
     pub fn add(&mut self, target: Target) {
         self.targets.push(target);
     }
 
-    fn next(&self) -> Option<Target> {
-        self.targets.get(self.work.motion.behind).copied()
-    }
-
     pub fn place(&self) -> Place {
-        self.work.motion.place(self.next())
+        self.place
     }
 
     pub fn tick(&mut self) -> [i64; 2] {
-        let before = self.place();
-        self.work = self.work.tick(self.machine, self.next());
-        let after = self.place();
+        let Some(target) = self.targets.get(self.work.behind) else { return [0, 0] };
+        let after = self.work.tick(self.machine, target);
+        let before = std::mem::replace(&mut self.place, after);
         [after.x - before.x, after.y - before.y]
     }
 
     pub fn hold(&mut self) {
-        self.work.panel.held = true;
+        self.work.held = true;
     }
 
     pub fn go(&mut self) {
-        self.work.panel.held = false;
+        self.work.held = false;
     }
 
     pub fn knob(&mut self, percent: u64) {
-        self.work.panel.percent = percent.min(100) as u32;
+        self.work.percent = percent.min(100) as u32;
     }
 }
 
@@ -180,8 +165,8 @@ fn check(machine: Machine, targets: &[i64], memory: &[i64], kind: u64, number: u
 
 fn work_in(memory: &[i64]) -> Work {
     let from = Place { x: memory[1], y: memory[2] };
-    let motion = Motion { behind: size(memory[0]) as usize, from, done: size(memory[3]), speed: size(memory[4]) };
-    Work { motion, panel: Panel { held: memory[5] == 1, percent: size(memory[6]) as u32 } }
+    let (done, speed, percent) = (size(memory[3]), size(memory[4]), size(memory[6]) as u32);
+    Work { behind: size(memory[0]) as usize, from, done, speed, held: memory[5] == 1, percent }
 }
 
 /// One event on lent memory, as a function that is called and not inlined.
@@ -195,20 +180,21 @@ pub fn happen(
     moved: &mut [i64; 2],
 ) -> Result<(), Refused> {
     check(machine, targets, memory, kind, number)?;
-    let work = work_in(memory);
-    let next = target_at(targets, work.motion.behind);
-    let before = work.motion.place(next);
-    let panel = work.panel;
-    let after = match kind {
-        0 => work.tick(machine, next),
-        1 => Work { panel: Panel { held: true, ..panel }, ..work },
-        2 => Work { panel: Panel { held: false, ..panel }, ..work },
-        _ => Work { panel: Panel { percent: number.min(100) as u32, ..panel }, ..work },
-    };
-    let Work { motion: Motion { behind, from, done, speed }, panel } = after;
-    let place = after.motion.place(target_at(targets, behind));
-    *moved = [place.x - before.x, place.y - before.y];
-    let held = i64::from(panel.held);
-    memory.copy_from_slice(&[behind as i64, from.x, from.y, done as i64, speed as i64, held, i64::from(panel.percent)]);
+    let mut work = work_in(memory);
+    *moved = [0, 0];
+    match kind {
+        0 => {
+            if let Some(target) = target_at(targets, work.behind) {
+                let before = work.place(Some(&target));
+                let after = work.tick(machine, &target);
+                *moved = [after.x - before.x, after.y - before.y];
+            }
+        }
+        1 => work.held = true,
+        2 => work.held = false,
+        _ => work.percent = number.min(100) as u32,
+    }
+    let Work { behind, from, done, speed, held, percent } = work;
+    memory.copy_from_slice(&[behind as i64, from.x, from.y, done as i64, speed as i64, i64::from(held), i64::from(percent)]);
     Ok(())
 }

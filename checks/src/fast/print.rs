@@ -67,17 +67,14 @@ impl Out {
 /// The program `targets`.
 pub fn targets(text: &[u8]) -> Result<(), Refused> {
     let nodes = read(text).map_err(|line| Refused(9, line))?;
-    let count = program::count(&nodes, 1 << 24)?;
-    let mut room = vec![0; 3 * count as usize];
-    program::say(&nodes, &mut room)?;
     let mut out = Out::new();
-    for target in room.chunks_exact(3) {
+    for target in program::load(&nodes, 1 << 24)? {
         out.bytes.extend_from_slice(b"to ");
-        out.number(target[0]);
+        out.number(target.x);
         out.bytes.push(b' ');
-        out.number(target[1]);
+        out.number(target.y);
         out.bytes.extend_from_slice(b" fast ");
-        out.number(target[2]);
+        out.number(target.fast as i64);
         out.end_line();
     }
     out.flush();

@@ -1,7 +1,7 @@
 //! What programs in numbers say.
 
 use super::{Place, size};
-use crate::plain::Refused;
+use crate::plain::{Refused, Target};
 
 /// How a frame's places are seen from outside: each axis goes along `ax`, `ay` from the frame's origin.
 #[derive(Clone, Copy)]
@@ -60,47 +60,59 @@ fn counted(nodes: &[i64], room: u64) -> Result<[u64; 1024], Refused> {
     if all > room { Err(Refused(4, all.min(1 << 40))) } else { Ok(counts) }
 }
 
+/// A walk through a program: where it is, and how many targets it has said.
 struct Walk<'a> {
     nodes: &'a [i64],
-    counts: [u64; 1024],
-    room: &'a mut [i64],
+    counts: &'a [u64; 1024],
     said: usize,
     here: Place,
-    far: Option<u64>,
 }
 
+/// A target is too far.
+struct Far;
+
 impl Walk<'_> {
-    fn go(&mut self, to: Place, fast: i64) {
-        if self.far.is_none() && to.is_far() {
-            self.far = Some(self.said as u64);
+    fn go(&mut self, to: Place, fast: i64, keep: &mut impl FnMut(usize, [i64; 3])) -> Result<(), Far> {
+        if to.is_far() {
+            return Err(Far);
         }
-        self.room[3 * self.said..3 * self.said + 3].copy_from_slice(&[to.x, to.y, fast.max(0)]);
+        keep(self.said, [to.x, to.y, fast.max(0)]);
         self.said += 1;
         self.here = to;
+        Ok(())
     }
 
-    fn node(&mut self, n: usize, frame: Frame) {
-        if self.counts[n] == 0 || self.far.is_some() {
-            return;
+    fn node(&mut self, n: usize, frame: Frame, keep: &mut impl FnMut(usize, [i64; 3])) -> Result<(), Far> {
+        if self.counts[n] == 0 {
+            return Ok(());
         }
-        let [kind, a, b, c] = self.nodes[4 * n..4 * n + 4].try_into().unwrap();
+        let [kind, a, b, c] = self.nodes[4 * n..4 * n + 4].try_into().expect("four numbers");
         let Frame { origin, ax, ay } = frame;
         match size(kind) {
-            1 => self.go(frame.place(a, b), c),
+            1 => self.go(frame.place(a, b), c, keep),
             2 => {
                 let way = frame.way(a, b);
-                self.go(Place { x: self.here.x + way.x, y: self.here.y + way.y }, c);
+                self.go(Place { x: self.here.x + way.x, y: self.here.y + way.y }, c, keep)
             }
             3 => {
-                self.node(size(a) as usize, frame);
-                self.node(size(b) as usize, frame);
+                self.node(size(a) as usize, frame, keep)?;
+                self.node(size(b) as usize, frame, keep)
             }
-            4 => (0..a).for_each(|_| self.node(size(b) as usize, frame)),
-            5 => self.node(size(c) as usize, Frame { origin: frame.place(a, b), ..frame }),
-            6 => self.node(size(a) as usize, Frame { origin, ax: ay, ay: Place { x: -ax.x, y: -ax.y } }),
-            7 => self.node(size(a) as usize, Frame { origin, ax: Place { x: -ax.x, y: -ax.y }, ay }),
-            _ => self.node(size(a) as usize, frame),
+            4 => (0..a).try_for_each(|_| self.node(size(b) as usize, frame, keep)),
+            5 => self.node(size(c) as usize, Frame { origin: frame.place(a, b), ..frame }, keep),
+            6 => self.node(size(a) as usize, Frame { origin, ax: ay, ay: Place { x: -ax.x, y: -ax.y } }, keep),
+            7 => self.node(size(a) as usize, Frame { origin, ax: Place { x: -ax.x, y: -ax.y }, ay }, keep),
+            _ => self.node(size(a) as usize, frame, keep),
         }
+    }
+}
+
+/// Goes through the whole program, and gives each target to `keep`.
+fn walk(nodes: &[i64], counts: &[u64; 1024], mut keep: impl FnMut(usize, [i64; 3])) -> Result<u64, Refused> {
+    let mut walk = Walk { nodes, counts, said: 0, here: Place::ORIGIN };
+    match walk.node(nodes.len() / 4 - 1, Frame::OUTSIDE, &mut keep) {
+        Ok(()) => Ok(walk.said as u64),
+        Err(Far) => Err(Refused(5, walk.said as u64)),
     }
 }
 
@@ -109,13 +121,18 @@ pub fn count(nodes: &[i64], most: u64) -> Result<u64, Refused> {
     Ok(counted(nodes, most)?[nodes.len() / 4 - 1])
 }
 
-/// The targets that a program says, into the room, whose numbers are lost where a target is too far.
+/// The targets that a program says, into a lent room. Since what is refused changes nothing, the program is gone through
+/// once before anything is written.
 pub fn say(nodes: &[i64], room: &mut [i64]) -> Result<u64, Refused> {
     let counts = counted(nodes, room.len() as u64 / 3)?;
-    let mut walk = Walk { nodes, counts, room, said: 0, here: Place::ORIGIN, far: None };
-    walk.node(nodes.len() / 4 - 1, Frame::OUTSIDE);
-    match walk.far {
-        Some(target) => Err(Refused(5, target)),
-        None => Ok(walk.said as u64),
-    }
+    walk(nodes, &counts, |_, _| ())?;
+    walk(nodes, &counts, |i, target| room[3 * i..3 * i + 3].copy_from_slice(&target))
+}
+
+/// The targets that a program says, at most so many.
+pub fn load(nodes: &[i64], most: u64) -> Result<Vec<Target>, Refused> {
+    let counts = counted(nodes, most)?;
+    let mut targets = Vec::with_capacity(counts[nodes.len() / 4 - 1] as usize);
+    walk(nodes, &counts, |_, [x, y, fast]| targets.push(Target { x, y, fast: fast as u64 }))?;
+    Ok(targets)
 }

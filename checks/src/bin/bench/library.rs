@@ -2,7 +2,6 @@
 
 use crate::{Row, timed};
 use checks::fast::{control as fast, program};
-use checks::plain::Target;
 use checks::plain::work::Machine;
 use checks::proved;
 use std::hint::black_box;
@@ -24,14 +23,6 @@ fn long_line(fast: u64) -> Vec<i64> {
     nodes
 }
 
-fn load(machine: Machine, nodes: &[i64]) -> (fast::Machine, Vec<Target>) {
-    let count = program::count(nodes, MILLION).expect("a program");
-    let mut room = vec![0; 3 * count as usize];
-    program::say(nodes, &mut room).expect("a program");
-    let target = |t: &[i64]| Target { x: t[0], y: t[1], fast: t[2] as u64 };
-    (fast::Machine { change: machine.change, top: machine.top }, room.chunks_exact(3).map(target).collect())
-}
-
 /// Ticks of a loaded control, without the loading. A short run is made many times.
 fn ticks(what: String, machine: Machine, nodes: &[i64], count: u64) -> Row {
     let runs = (4 * MILLION / count).max(1);
@@ -40,7 +31,8 @@ fn ticks(what: String, machine: Machine, nodes: &[i64], count: u64) -> Row {
             black_box(proved::run(machine, nodes, MILLION, count).expect("a run"));
         }
     };
-    let (quick, targets) = load(machine, nodes);
+    let quick = fast::Machine { change: machine.change, top: machine.top };
+    let targets = program::load(nodes, MILLION).expect("a program");
     let plain = |count: u64| {
         for _ in 0..runs {
             let mut control = fast::Control::new(quick, targets.clone());
