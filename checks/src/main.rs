@@ -20,7 +20,8 @@ struct Settings {
 
 impl Settings {
     fn read() -> Result<Settings, String> {
-        let mut settings = Settings { seed: 1, cases: 200_000, folder: "target/bin".to_string(), mistake: Mistake::None };
+        let mut settings =
+            Settings { seed: 1, cases: 200_000, folder: "target/bin".to_string(), mistake: Mistake::None };
         let mut words = std::env::args().skip(1);
         while let Some(word) = words.next() {
             let value = words.next().ok_or(format!("{word} needs a value"))?;

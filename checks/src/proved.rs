@@ -103,11 +103,8 @@ impl Program {
     }
 
     pub fn run(&self, input: &[u8]) -> std::io::Result<Answer> {
-        let mut child = Command::new(&self.path)
-            .stdin(Stdio::piped())
-            .stdout(Stdio::piped())
-            .stderr(Stdio::piped())
-            .spawn()?;
+        let mut child =
+            Command::new(&self.path).stdin(Stdio::piped()).stdout(Stdio::piped()).stderr(Stdio::piped()).spawn()?;
         let mut stdin = child.stdin.take().expect("standard input is piped");
         let output = std::thread::scope(|scope| {
             // A program that refuses early may not read all of it.

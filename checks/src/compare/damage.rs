@@ -4,8 +4,30 @@ use checks::random::Random;
 
 /// Pieces that may stand in a text where they should not.
 const PIECES: [&[u8]; 24] = [
-    b"to", b"by", b"fast", b"times", b"at", b"turn", b"mirror", b"sub", b";", b"{", b"}", b"\n", b"-", b"+1", b"--2", b"1x",
-    b"\0", b"\x0c", b"9223372036854775808", b"-99999999999999999999", b"machine 1 1", b"tick", b"knob 1001", b"To",
+    b"to",
+    b"by",
+    b"fast",
+    b"times",
+    b"at",
+    b"turn",
+    b"mirror",
+    b"sub",
+    b";",
+    b"{",
+    b"}",
+    b"\n",
+    b"-",
+    b"+1",
+    b"--2",
+    b"1x",
+    b"\0",
+    b"\x0c",
+    b"9223372036854775808",
+    b"-99999999999999999999",
+    b"machine 1 1",
+    b"tick",
+    b"knob 1001",
+    b"To",
 ];
 
 fn is_space(byte: u8) -> bool {
@@ -31,7 +53,7 @@ pub fn damage(random: &mut Random, text: &mut Vec<u8>) {
     let (begin, end) = word(random, text);
     match random.below(7) {
         0 => text[at] ^= 1 << random.below(8),
-        1 => text[at] = random.next() as u8,
+        1 => text[at] = random.draw() as u8,
         2 => drop(text.drain(begin..end)),
         3 => text.truncate(at),
         4 => drop(text.drain(..at)),

@@ -1,6 +1,6 @@
 //! Events on lent numbers: raw memories that no run reaches, and rows of events from a fresh work.
 
-use super::{Compared, same};
+use super::{Compared, Seen, same};
 use checks::fast::control as fast;
 use checks::plain::work::{Machine, Work};
 use checks::plain::{Refused, Rules};
@@ -116,7 +116,7 @@ fn event(random: &mut Random) -> (u64, u64) {
 }
 
 /// One event by both; the memory and pulses of the proved one go on.
-fn both(rules: Rules, case: &mut Case) -> Result<Option<Refused>, String> {
+fn both(rules: Rules, case: &mut Case) -> Result<Result<(), Refused>, String> {
     let before = case.clone();
     let untouched = [i64::MIN, 77];
     let mut moved = untouched;
@@ -133,20 +133,19 @@ fn both(rules: Rules, case: &mut Case) -> Result<Option<Refused>, String> {
     let machine = fast::Machine { change: case.machine.change, top: case.machine.top };
     let quick = fast::happen(machine, &before.targets, &mut memory, case.kind, case.number, &mut moved);
     same("the quick plain happen", &before, (quick, &memory, moved), (proved, &case.memory, pulses))?;
-    Ok(proved.err())
+    Ok(proved)
 }
 
 /// Memories of any kind, one event each.
 pub fn compare_raw(rules: Rules, random: &mut Random, cases: u64) -> Compared {
-    let mut refusals = [0u64; 9];
+    let mut seen = Seen::default();
     for _ in 0..cases {
         let (kind, number) = event(random);
-        let mut case = Case { machine: machine(random), targets: targets(random), memory: memory(random), kind, number };
-        let refused = both(rules, &mut case)?;
-        refusals[refused.map_or(0, |r| r.0) as usize] += 1;
+        let mut case =
+            Case { machine: machine(random), targets: targets(random), memory: memory(random), kind, number };
+        seen.add(&both(rules, &mut case)?);
     }
-    let seen = [0, 6, 7, 8].iter().all(|&n| refusals[n] > 0);
-    if seen || cases < 10_000 { Ok(cases) } else { Err(format!("a refusal of happen never came: {refusals:?}")) }
+    seen.all(&[0, 6, 7, 8], "happen", cases, 10_000)
 }
 
 /// Rows of events from a fresh work, followed through.
@@ -157,7 +156,7 @@ pub fn compare_rows(rules: Rules, random: &mut Random, cases: u64) -> Compared {
         let mut case = Case { machine, targets, memory: Work::FRESH.numbers().to_vec(), kind: 0, number: 0 };
         for _ in 0..random.between(1, 300) {
             (case.kind, case.number) = event(random);
-            both(rules, &mut case)?;
+            let _ = both(rules, &mut case)?;
             done += 1;
         }
     }

@@ -1,6 +1,6 @@
 //! Programs in numbers, valid and damaged.
 
-use super::{Compared, same};
+use super::{Compared, Seen, same};
 use checks::fast::program as fast;
 use checks::plain::{Refused, Rules, Target};
 use checks::proved;
@@ -33,7 +33,11 @@ fn count(random: &mut Random) -> i64 {
 }
 
 fn node(random: &mut Random, i: usize) -> [i64; 4] {
-    let kind = if i == 0 { random.pick(&[0, 1, 2, -4]) } else { random.pick(&[0, 1, 1, 2, 2, 2, 3, 3, 3, 3, 4, 5, 5, 6, 6, 7, 7, 8]) };
+    let kind = if i == 0 {
+        random.pick(&[0, 1, 2, -4])
+    } else {
+        random.pick(&[0, 1, 1, 2, 2, 2, 3, 3, 3, 3, 4, 5, 5, 6, 6, 7, 7, 8])
+    };
     let n = number(random);
     let unused = if random.one_in(3) { number(random) } else { 0 };
     match kind {
@@ -99,10 +103,10 @@ fn room_after(targets: &[Target], before: &[i64]) -> Vec<i64> {
 }
 
 pub fn compare(rules: Rules, random: &mut Random, cases: u64) -> Compared {
-    let mut refusals = [0u64; 6];
+    let mut seen = Seen::default();
     for _ in 0..cases {
         let (nodes, length) = case(random, rules);
-        let before: Vec<i64> = (0..length).map(|_| random.next() as i64).collect();
+        let before: Vec<i64> = (0..length).map(|_| random.draw() as i64).collect();
         let mut room = before.clone();
         let proved = proved::say(&nodes, &mut room);
         let plain = rules.say(&nodes, length as u64 / 3);
@@ -112,10 +116,7 @@ pub fn compare(rules: Rules, random: &mut Random, cases: u64) -> Compared {
         same("the room after say", &shown, &room, &after)?;
         let mut quick = before.clone();
         same("the quick plain say", &shown, (fast::say(&nodes, &mut quick), quick), (proved, room))?;
-        refusals[proved.err().map_or(0, |r| r.0) as usize] += 1;
+        seen.add(&proved);
     }
-    match refusals.iter().position(|&n| n == 0) {
-        Some(never) if cases >= 10_000 => Err(format!("no case of say was answered {never}")),
-        _ => Ok(cases),
-    }
+    seen.all(&[0, 1, 2, 3, 4, 5], "say", cases, 10_000)
 }

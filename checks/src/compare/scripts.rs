@@ -1,7 +1,7 @@
 //! Scripts through the program `play`, valid and damaged.
 
 use super::damage::damage;
-use super::{Compared, processes};
+use super::{Compared, Seen, processes};
 use checks::plain::Rules;
 use checks::proved::Program;
 use checks::random::Random;
@@ -27,6 +27,7 @@ fn order(random: &mut Random) -> String {
         6..=9 => "go".to_string(),
         10 | 11 => format!("knob {}", random.pick(&[0, 1, 33, 50, 99, 100, 101, 1000, -5])),
         12 | 13 => "where".to_string(),
+        14 if random.one_in(200) => format!("tick {}", random.between(5000, 40_000)),
         _ => format!("tick {}", random.pick(&[1, 1, 2, 3, 5, 10, 40, 0, -1])),
     }
 }
@@ -42,14 +43,24 @@ fn machine(random: &mut Random) -> String {
 
 /// A fault of those that are found by the checks, and not by the reader.
 fn faulty(random: &mut Random) -> &'static str {
-    random.pick(&["to 1000000001 0 fast 3", "to 0 -1000000001 fast 3", "knob 1001", "knob 9223372036854775808", "to 0 99999999999999999999 fast 1"])
+    random.pick(&[
+        "to 1000000001 0 fast 3",
+        "to 0 -1000000001 fast 3",
+        "knob 1001",
+        "knob 9223372036854775808",
+        "to 0 99999999999999999999 fast 1",
+    ])
 }
 
 fn script(random: &mut Random) -> (Vec<u8>, u64) {
     let mut lines = vec![machine(random)];
-    let orders = if random.one_in(3) { random.below(20) } else { random.between(20, 300) as u64 };
+    let orders = match random.below(90) {
+        0 => 10_000,
+        1..=30 => random.below(20),
+        _ => random.between(20, 300) as u64,
+    };
     for _ in 0..orders {
-        lines.push(if random.one_in(900) { faulty(random).to_string() } else { order(random) });
+        lines.push(if random.one_in(1500) { faulty(random).to_string() } else { order(random) });
     }
     let mut text = Vec::new();
     for line in lines {
@@ -66,7 +77,7 @@ fn script(random: &mut Random) -> (Vec<u8>, u64) {
 
 /// Compares scripts until they have so many orders in all.
 pub fn compare(rules: Rules, program: &Program, random: &mut Random, orders: u64) -> Compared {
-    let mut done = 0;
+    let (mut done, mut seen) = (0, Seen::default());
     while done < orders {
         let (mut text, count) = script(random);
         while random.one_in(4) {
@@ -75,10 +86,12 @@ pub fn compare(rules: Rules, program: &Program, random: &mut Random, orders: u64
         if ticks(&text) > 1_000_000 {
             continue;
         }
-        processes::compare(program, &text, rules.play(&text))?;
+        let plain = rules.play(&text);
+        seen.add(&plain);
+        processes::compare(program, &text, plain)?;
         done += count;
     }
-    Ok(done)
+    seen.all(&[0, 6, 7, 8, 9], "scripts", done, 20_000)
 }
 
 /// The largest number behind a `tick`, since damage may join two numbers into one that takes for ever.

@@ -1,7 +1,7 @@
 //! Texts through the program `targets`, valid and damaged.
 
 use super::damage::damage;
-use super::{Compared, processes};
+use super::{Compared, Seen, processes};
 use checks::plain::Rules;
 use checks::proved::Program;
 use checks::random::Random;
@@ -26,7 +26,9 @@ impl Writer<'_> {
             3 if matches!(word, ";" | "{" | "}") => b"",
             _ => b" ",
         };
-        self.text.extend_from_slice(space);
+        // A reader may take the text in pieces: now and then a word stands far behind the last.
+        let times = if self.random.one_in(4000) { self.random.between(1, 150_000) } else { 1 };
+        self.text.extend_from_slice(&space.repeat(times as usize));
     }
 
     fn number(&mut self, n: i64) {
@@ -75,6 +77,7 @@ impl Writer<'_> {
             0 => 1_000_000,
             1 => 0,
             2 => -4,
+            3 => 3000,
             _ => self.random.between(1, 4),
         };
         self.number(n);
@@ -135,7 +138,7 @@ fn text(random: &mut Random) -> Vec<u8> {
 }
 
 pub fn compare(rules: Rules, program: &Program, random: &mut Random, cases: u64) -> Compared {
-    let mut done = 0;
+    let (mut done, mut seen) = (0, Seen::default());
     while done < cases {
         let mut text = text(random);
         while random.one_in(2) {
@@ -148,7 +151,9 @@ pub fn compare(rules: Rules, program: &Program, random: &mut Random, cases: u64)
                 continue;
             }
         }
-        done += processes::compare(program, &text, rules.print_targets(&text))?;
+        let plain = rules.print_targets(&text);
+        seen.add(&plain);
+        done += processes::compare(program, &text, plain)?;
     }
-    Ok(done)
+    seen.all(&[0, 1, 2, 4, 5, 9], "texts", done, 1000)
 }

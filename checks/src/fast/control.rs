@@ -83,7 +83,10 @@ impl Work {
         self.speed = next_speed(machine.change, cap, length.saturating_sub(self.done), self.speed);
         self.done += self.speed;
         if self.done < length {
-            return Place { x: along(self.from.x, to.x, self.done, length), y: along(self.from.y, to.y, self.done, length) };
+            return Place {
+                x: along(self.from.x, to.x, self.done, length),
+                y: along(self.from.y, to.y, self.done, length),
+            };
         }
         *self = Work { behind: self.behind + 1, from: to, done: 0, speed: 0, held: self.held, percent: self.percent };
         to
@@ -145,13 +148,14 @@ fn check(machine: Machine, targets: &[i64], memory: &[i64], kind: u64, number: u
     if !fine(machine.top) {
         return Err(Refused(6, 1));
     }
-    if targets.len() % 3 != 0 {
+    if !targets.len().is_multiple_of(3) {
         return Err(Refused(7, 0));
     }
     if targets.chunks_exact(3).any(far) {
         return Err(Refused(7, 1));
     }
-    if memory.len() != 7 || memory.iter().any(|n| n.unsigned_abs() > 2 * REACH) || memory[6] > 100 || far(&memory[1..3]) {
+    if memory.len() != 7 || memory.iter().any(|n| n.unsigned_abs() > 2 * REACH) || memory[6] > 100 || far(&memory[1..3])
+    {
         return Err(Refused(7, 2));
     }
     if kind > 3 {
@@ -195,6 +199,14 @@ pub fn happen(
         _ => work.percent = number.min(100) as u32,
     }
     let Work { behind, from, done, speed, held, percent } = work;
-    memory.copy_from_slice(&[behind as i64, from.x, from.y, done as i64, speed as i64, i64::from(held), i64::from(percent)]);
+    memory.copy_from_slice(&[
+        behind as i64,
+        from.x,
+        from.y,
+        done as i64,
+        speed as i64,
+        i64::from(held),
+        i64::from(percent),
+    ]);
     Ok(())
 }

@@ -2,10 +2,10 @@
 
 use super::control::{Control, Machine};
 use super::program;
+use crate::plain::Refused;
 use crate::plain::script::{Order, check, orders};
 use crate::plain::text::read;
 use crate::plain::work::Event;
-use crate::plain::Refused;
 use std::io::Write;
 
 const FULL: usize = 1 << 16;

@@ -36,7 +36,7 @@ fn names(node: &[i64]) -> [Option<u64>; 2] {
 
 fn counted(nodes: &[i64], room: u64) -> Result<[u64; 1024], Refused> {
     let count = nodes.len() / 4;
-    if nodes.len() % 4 != 0 || count == 0 || count > 1024 {
+    if !nodes.len().is_multiple_of(4) || count == 0 || count > 1024 {
         return Err(Refused(1, nodes.len() as u64));
     }
     if let Some(i) = nodes.iter().position(|n| n.unsigned_abs() > 1_000_000) {

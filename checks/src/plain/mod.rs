@@ -36,13 +36,8 @@ pub enum Mistake {
 }
 
 impl Mistake {
-    pub const ALL: [Mistake; 5] = [
-        Mistake::HalvesUp,
-        Mistake::SlowsAtOnce,
-        Mistake::ByFromOutside,
-        Mistake::SquareToStop,
-        Mistake::LinesFromOne,
-    ];
+    pub const ALL: [Mistake; 5] =
+        [Mistake::HalvesUp, Mistake::SlowsAtOnce, Mistake::ByFromOutside, Mistake::SquareToStop, Mistake::LinesFromOne];
 }
 
 /// The rules, with at most one mistake planted in them.

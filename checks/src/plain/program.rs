@@ -41,7 +41,7 @@ fn counts(nodes: &[i64]) -> Vec<u128> {
 
 fn shape(nodes: &[i64]) -> Result<(), Refused> {
     let count = nodes.len() / 4;
-    if nodes.len() % 4 != 0 || count == 0 || count > MOST_NODES {
+    if !nodes.len().is_multiple_of(4) || count == 0 || count > MOST_NODES {
         return Err(Refused(1, nodes.len() as u64));
     }
     if let Some(i) = nodes.iter().position(|n| n.unsigned_abs() > MOST_NUMBER) {
@@ -96,7 +96,9 @@ impl Rules {
                 self.walk(nodes, counts, size(b) as usize, here, out)
             }
             4 => (0..size(a)).fold(here, |here, _| self.walk(nodes, counts, size(b) as usize, here, out)),
-            5 => self.framed(nodes, counts, size(c) as usize, here, out, |p| (p.0 + a, p.1 + b), |p| (p.0 - a, p.1 - b)),
+            5 => {
+                self.framed(nodes, counts, size(c) as usize, here, out, |p| (p.0 + a, p.1 + b), |p| (p.0 - a, p.1 - b))
+            }
             6 => self.framed(nodes, counts, size(a) as usize, here, out, |p| (-p.1, p.0), |p| (p.1, -p.0)),
             7 => self.framed(nodes, counts, size(a) as usize, here, out, |p| (-p.0, p.1), |p| (-p.0, p.1)),
             _ => self.walk(nodes, counts, size(a) as usize, here, out),

@@ -51,7 +51,13 @@ pub fn number(word: &[u8]) -> Option<i64> {
     }
     let cut = i64::try_from(value).unwrap_or(i64::MAX);
     let below = value > i64::MAX as u64;
-    Some(if negative && below { i64::MIN } else if negative { -cut } else { cut })
+    Some(if negative && below {
+        i64::MIN
+    } else if negative {
+        -cut
+    } else {
+        cut
+    })
 }
 
 /// What a block becomes at its end.

@@ -73,7 +73,7 @@ impl Work {
 }
 
 fn targets_of(numbers: &[i64]) -> Result<Vec<Target>, Refused> {
-    if numbers.len() % 3 != 0 {
+    if !numbers.len().is_multiple_of(3) {
         return Err(Refused(7, 0));
     }
     let target = |t: &[i64]| Target { x: t[0], y: t[1], fast: u64::try_from(t[2]).unwrap_or(0) };

@@ -118,7 +118,12 @@ pub fn rows() -> Vec<Row> {
     for ratio in [1, 10, 100, 1000, 10_000, MILLION] {
         let (machine, memory) = braking(ratio);
         let targets = [1_000_000_000, 0, MILLION as i64].repeat(10);
-        rows.push(events(format!("thin entry, 10 targets, braking, speed over change {ratio}"), machine, &targets, memory));
+        rows.push(events(
+            format!("thin entry, 10 targets, braking, speed over change {ratio}"),
+            machine,
+            &targets,
+            memory,
+        ));
     }
     said_rows(&mut rows);
     rows
