@@ -8,7 +8,7 @@ use mir.Syntax.{w64}
 use mir.Val.{SFits}
 use Rattle.std.proofs.shelf.Signed.{ints}
 use Rattle.geometry.specs.declared.place.Place.{Place}
-use Rattle.line.proofs.Walk.{same-place}
+use Rattle.geometry.proofs.Acts.{same-place}
 use Rattle.program.specs.declared.target.Target.{Target}
 use Rattle.work.specs.declared.machine.Machine.{Machine}
 use Rattle.work.specs.declared.work.Work.{Work}
