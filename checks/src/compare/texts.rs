@@ -82,6 +82,10 @@ impl Writer<'_> {
         };
         self.number(n);
         self.word("times");
+        if n == 3000 && self.random.one_in(2) {
+            // Beyond the reach of any program.
+            return self.text.extend_from_slice(b"{ by 999999 -1000000 fast 5; }");
+        }
         self.block(depth);
     }
 
