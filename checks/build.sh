@@ -1,4 +1,4 @@
-# Builds the two programs, the static library and the check over them; says nothing unless something fails.
+# Builds the two programs, the static libraries and the check over them; says nothing unless something fails.
 quietly() {
   local log
   log=$(mktemp)
@@ -11,6 +11,7 @@ quietly() {
 
 quietly rt check play targets
 quietly rt staticlib ffi
+quietly rt staticlib ffi_run
 export MILL_STATICLIB=$PWD/target/staticlib
 RATTLE_LIB=$(dirname "$(dirname "$(rt doc)")")/lib
 export RATTLE_LIB

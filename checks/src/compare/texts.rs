@@ -82,11 +82,13 @@ impl Writer<'_> {
         };
         self.number(n);
         self.word("times");
-        if n == 3000 && self.random.one_in(2) {
-            // Beyond the reach of any program.
-            return self.text.extend_from_slice(b"{ by 999999 -1000000 fast 5; }");
+        match n {
+            // More targets than there is room for.
+            1_000_000 => self.text.extend_from_slice(b"{ 1000 times { by 1 0 fast 1; } }"),
+            // Farther than a program may reach.
+            3000 if self.random.one_in(2) => self.text.extend_from_slice(b"{ by 999999 -1000000 fast 5; }"),
+            _ => self.block(depth),
         }
-        self.block(depth);
     }
 
     fn line(&mut self, depth: u64) {

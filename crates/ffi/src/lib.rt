@@ -3,8 +3,6 @@
 // but the place of the refusal. It knows nothing of texts.
 mod events;
 mod programs;
-mod runs;
 
 pub use events::mill_happen;
 pub use programs::mill_say;
-pub use runs::mill_run;

@@ -1,8 +1,8 @@
 use mathlib.Core.Path.{_≡_}
 use Prim.Native.Nat.{_-_, _≤_}
 use Rattle.std.specs.Of.Vec.{vec-items}
-use Rattle.ffi.proofs.Travels.{Gone}
-use Rattle.ffi.proofs.runs.travel.Given as given
+use Rattle.ffi_run.proofs.Travels.{Gone}
+use Rattle.ffi_run.proofs.travel.Given as given
 
 abbrev pub Inv-loop-left : given.InvT-loop-left
 Inv-loop-left l =

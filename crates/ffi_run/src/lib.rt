@@ -1,7 +1,8 @@
-// A program run from the beginning to so many ticks.
+// A program run from the beginning for so many ticks, for programs in C and Rust: a loaded control and nothing else, so
+// that this library is also what the control's speed is measured by. It knows nothing of texts.
 ghost use mathlib.Core.Path.{_≡_};
 ghost use Prim.Native.Nat.{_^_, min};
-ghost use Rattle.ffi.specs.Calls.{Ran, Run-told};
+ghost use Rattle.ffi_run.specs.Runs.{Ran, Run-told};
 ghost use Rattle.std.specs.Of.Vec.{vec-items};
 ghost use Rattle.work.specs.Works.{place, row, ticks};
 use control::Control;

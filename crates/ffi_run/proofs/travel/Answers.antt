@@ -7,8 +7,8 @@ use mir.Syntax.{w64}
 use mir.Val.{SFits}
 use Rattle.std.proofs.shelf.Signed.{toZ-ofZ}
 use Rattle.std.specs.Of.Vec.{vec-items}
-use Rattle.ffi.proofs.Travels.{none, another, sums-fit}
-use Rattle.ffi.proofs.runs.travel.Needs as need
+use Rattle.ffi_run.proofs.Travels.{none, another, sums-fit}
+use Rattle.ffi_run.proofs.travel.Needs as need
 
 pub loop-left-holds : need.loop-left-holds
 loop-left-holds c =
