@@ -33,11 +33,11 @@ added : (a b d : ℤ) → d ≡ b -ℤ a → a +ℤ d ≡ b
 added a b d e = omega (arith, ints)
 
 -- a tick more, as a control gives it
-pub another : (m m1 : Machine) (ts ts1 : List Target) (w : Work) (k : ℕ) (v u : Work) (p : Place) (d : Pulses) (x y : ℤ)
-    → m1 ≡ m → ts1 ≡ ts → Gone m ts w k v p → u ≡ happens m1 ts1 Tick v → d ≡ pulses m1 ts1 Tick v
+pub another : (m m′ : Machine) (ts ts′ : List Target) (w : Work) (k : ℕ) (v u : Work) (p : Place) (d : Pulses) (x y : ℤ)
+    → m′ ≡ m → ts′ ≡ ts → Gone m ts w k v p → u ≡ happens m′ ts′ Tick v → d ≡ pulses m′ ts′ Tick v
     → x ≡ p .x +ℤ d .x → y ≡ p .y +ℤ d .y → Gone m ts w (suc k) u (record { x = x; y = y })
 unfolding row ticks
-another m m1 ts ts1 w k v u p d x y a b h e f g i =
+another m m′ ts ts′ w k v u p d x y a b h e f g i =
     let n : u ≡ happens m ts Tick v = e ∙ rw (a, b) in
     let q : d ≡ pulses m ts Tick v = f ∙ rw (a, b) in
     record {
