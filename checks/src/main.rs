@@ -6,7 +6,7 @@ mod compare;
 use checks::plain::{Mistake, Rules};
 use checks::proved::Program;
 use checks::random::Random;
-use compare::{Compared, happen, runs, say, scripts, search, tables, texts};
+use compare::{Compared, edges, happen, runs, say, scripts, search, tables, texts};
 use std::path::Path;
 use std::process::ExitCode;
 use std::time::Instant;
@@ -63,6 +63,9 @@ fn all(rules: Rules, programs: &Programs, seed: u64, cases: u64) -> Vec<Named> {
         ("events in rows", happen::compare_rows(rules, &mut fresh(3), cases)),
         ("programs run", runs::compare(rules, &mut fresh(6), cases / 10)),
     ];
+    if let (Some(targets), Some(play)) = (&programs.targets, &programs.play) {
+        done.push(("texts and scripts at the edges", edges::compare(rules, targets, play)));
+    }
     if let Some(targets) = &programs.targets {
         done.push(("texts", texts::compare(rules, targets, &mut fresh(4), cases / 50)));
     }

@@ -2,6 +2,7 @@
 //! not, in full.
 
 pub mod damage;
+pub mod edges;
 pub mod happen;
 pub mod processes;
 pub mod runs;

@@ -1,4 +1,4 @@
-use mathlib.Core.Path.{_≡_, _∙_}
+use mathlib.Core.Path.{_∙_}
 use Rattle.ffi.proofs.Telling.{said-told}
 use Rattle.ffi.proofs.programs.mill_say.Needs as need
 
