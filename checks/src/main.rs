@@ -67,7 +67,7 @@ fn all(rules: Rules, programs: &Programs, seed: u64, cases: u64) -> Vec<Named> {
         done.push(("texts and scripts at the edges", edges::compare(rules, targets, play)));
     }
     if let Some(targets) = &programs.targets {
-        done.push(("texts", texts::compare(rules, targets, &mut fresh(4), cases / 50)));
+        done.push(("texts", texts::compare(rules, targets, &mut fresh(4), cases / 2)));
     }
     if let Some(play) = &programs.play {
         done.push(("orders in scripts", scripts::compare(rules, play, &mut fresh(5), cases)));
