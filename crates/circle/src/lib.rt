@@ -9,6 +9,9 @@
 //     1 |           o
 //     0 |           o
 //         0 1 2 3 4 5
+
+#![tactic(auto)]
+
 ghost use Rattle.circle.specs.Laws.{CircleLaws};
 
 mod along;

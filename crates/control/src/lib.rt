@@ -4,6 +4,9 @@
 //
 // A control's state is always what some row of events leads to, so each call's contract gives the promise of work. It
 // knows nothing of texts.
+
+#![tactic(auto)]
+
 mod control;
 mod fault;
 mod machines;

@@ -1,5 +1,8 @@
 // Numbers as bytes, and the lines that the programs print: made in memory, digit by digit, so that millions of lines a
 // second can be written out in large pieces.
+
+#![tactic(auto)]
+
 ghost use Rattle.std.specs.Prelude.{◌≡◌, ◌++◌, decimal, OnOk};
 ghost use Rattle.decimal.specs.Lines.{pulse_text, pulses_line, place_line, target_line};
 ghost use Rattle.std.specs.Fmt.{signed_decimal};

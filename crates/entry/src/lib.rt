@@ -1,5 +1,8 @@
 // The control over lent numbers, for a panel and a motor driver that know numbers and no structs: one event on memory of
 // seven numbers. What is lent is checked whole before anything is done, so what is turned away changes nothing.
+
+#![tactic(auto)]
+
 ghost use Rattle.entry.specs.Agreement.{Agrees};
 
 mod check;

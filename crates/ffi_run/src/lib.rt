@@ -1,5 +1,8 @@
 // A program run from the beginning for so many ticks, for programs in C and Rust: a loaded control and nothing else, so
 // that this library is also what the control's speed is measured by. It knows nothing of texts.
+
+#![tactic(auto)]
+
 ghost use Rattle.std.specs.Prelude.{◌≡◌, ◌^◌, min};
 ghost use Rattle.ffi_run.specs.Runs.{Ran, RunTold};
 ghost use Rattle.work.specs.Works.{place, row, ticks};

@@ -1,4 +1,7 @@
 // Places in steps, and the frames that a program's lines stand in. It knows nothing of programs or of time.
+
+#![tactic(auto)]
+
 mod frame;
 mod place;
 

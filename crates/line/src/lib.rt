@@ -5,6 +5,9 @@
 //     1 |        . o o .           the line from 0, 0 to 5, 2: it is 5 steps long, one for each
 //     0 | o o .                    column, and the other axis takes the nearest step (o)
 //         0 1 2 3 4 5
+
+#![tactic(auto)]
+
 ghost use Rattle.std.specs.Prelude.{◌≡◌};
 ghost use Rattle.line.specs.Laws.{LineLaws};
 

@@ -1,5 +1,8 @@
 // A program's listing: its lines one after another, written in one layout. The head of a block and its `}` are lines
 // of their own. It knows nothing of how a text is read, or of what its lines do.
+
+#![tactic(auto)]
+
 ghost use Rattle.std.specs.Prelude.{◌≡◌, ◌-◌, ◌^◌, ◌<◌, ◌++◌, IfOk, Some, string_bytes, OnOk};
 ghost use Rattle.listing.specs.Writing.{line_text, depth_of, depth_after, indented, whole_line, written};
 

@@ -4,6 +4,9 @@
 //     text --read--> nodes --load--> targets --load--> control
 //
 // A text that can't be read is refused before anything else is checked.
+
+#![tactic(auto)]
+
 mod controls;
 mod failure;
 mod texts;

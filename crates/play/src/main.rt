@@ -1,4 +1,7 @@
 // Plays a script from standard input: after each tick its pulses are printed, and the place where it says `where`.
+
+#![tactic(auto)]
+
 use anyhow::anyhow;
 use control::{AddError, Control};
 use decimal::put_place;

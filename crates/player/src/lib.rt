@@ -1,4 +1,7 @@
 // The player: a run of so many ticks of a loaded control, printed as it goes.
+
+#![tactic(auto)]
+
 ghost use Rattle.std.specs.Prelude.{◌≡◌, IfOk};
 ghost use Rattle.player.specs.Plays.{Ran};
 

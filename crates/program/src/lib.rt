@@ -1,5 +1,8 @@
 // Programs in numbers: nodes of four numbers, and the targets that they say, one after the other. It knows nothing of
 // texts, of lines between targets or of time.
+
+#![tactic(auto)]
+
 mod check;
 mod counts;
 mod entry;

@@ -1,5 +1,8 @@
 // Programs in numbers, run: the worked ones, each refusal, and those that would take for ever if what says nothing was
 // repeated.
+
+#![tactic(auto)]
+
 #[cfg(test)]
 mod tests {
     use program::{Said, load, say};

@@ -1,5 +1,8 @@
 // Pulses: what each motor gets in a tick. One pulse, one step, so a motor's place is where it began plus the sum of its
 // pulses. It knows nothing of programs.
+
+#![tactic(auto)]
+
 ghost use Rattle.std.specs.Prelude.{◌≡◌};
 ghost use Rattle.geometry.specs.Places.{Within};
 ghost use Rattle.pulses.specs.Motors.{between, MotorLaws};

@@ -2,6 +2,9 @@
 //
 // A refusal has a number, the first of the list that applies, and a place: which number, node, target or line it is
 // about, counted from 0. The list is only ever added to. What is refused changes nothing that was lent.
+
+#![tactic(auto)]
+
 ghost use Rattle.std.specs.Prelude.{◌≡◌};
 ghost use Rattle.refusal.specs.Refusals.{number, place};
 

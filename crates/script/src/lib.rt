@@ -7,6 +7,9 @@
 //     hold                and its like: go, knob 50, where
 //
 // It knows nothing of what the orders do.
+
+#![tactic(auto)]
+
 mod fault;
 mod order;
 mod reader;

@@ -8,6 +8,9 @@
 //            |  _/           \_        each tick changes it by at most the change,
 //            |_/               \_      and what is left always suffices to stop
 //            +------------------------ ticks
+
+#![tactic(auto)]
+
 ghost use Rattle.std.specs.Prelude.{◌≡◌, ◌+◌, ◌^◌, ◌<◌, ◌≤◌, max, nat_le};
 ghost use Rattle.speed.specs.Laws.{SpeedLaws};
 ghost use Rattle.speed.specs.Speeds.{stopping, fastest, next_speed};

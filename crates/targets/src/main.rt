@@ -1,4 +1,7 @@
 // Prints the targets that a part program says: its text is read from standard input.
+
+#![tactic(auto)]
+
 use anyhow::anyhow;
 use decimal::put_target;
 use loader::{Failure, targets};

@@ -7,6 +7,9 @@
 //     sub 2 { }   sub 2;                                    a sub-program before all else, and its use
 //
 // It knows nothing of what nodes mean: places, frames and targets are for others.
+
+#![tactic(auto)]
+
 mod draft;
 mod error;
 mod phase;

@@ -1,5 +1,8 @@
 // Plain words for people: where a text can't be read, what stands there and what could. It knows nothing of how a fault
 // is found.
+
+#![tactic(auto)]
+
 ghost use Rattle.std.specs.Prelude.{◌≡◌, ◌<◌, ◌++◌, IfOk, string_bytes, OnOk};
 ghost use Rattle.std.specs.List.{flat_map};
 ghost use Rattle.text_message.specs.Explaining.{expected_text, printing, hex_digit, shown_byte, closing_text, shown_word, word_at, sentence};

@@ -1,4 +1,7 @@
 // Texts to try: every form, each kind of damage with its line, numbers at their ends, and the layout that is written.
+
+#![tactic(auto)]
+
 #[cfg(test)]
 mod tests {
     use listing::{Line, write};

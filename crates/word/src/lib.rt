@@ -1,5 +1,8 @@
 // A word of a text: whether it is a given one, and the number that it writes. It knows nothing of what a text means, or
 // of how words stand apart in it.
+
+#![tactic(auto)]
+
 ghost use Rattle.std.specs.Prelude.{◌≡◌};
 ghost use Rattle.std.specs.Str.{bytes_eq};
 ghost use Rattle.word.specs.Numbers.{number_of, magnitude, up, down};

@@ -4,6 +4,9 @@
 //
 // Only a tick moves anything, and it sees the panel as one number, the cap. A hold, a go and a turn of the knob change
 // the panel alone. It knows nothing of texts, or of numbers lent by others.
+
+#![tactic(auto)]
+
 ghost use Rattle.work.specs.Promises.{Promised};
 ghost use Rattle.work.specs.Worked.{Worked};
 
