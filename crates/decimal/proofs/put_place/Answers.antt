@@ -9,6 +9,6 @@ returns c =
     let x : SFits w64 c.args.place.x = search rules in
     let y : SFits w64 c.args.place.y = search rules in
     let o : List ℕ = vec_items c.args.out.now in
-    let p : vec_items c.put-number.new.out ≡ o ++ signed_decimal c.args.place.x = simp to_z-of_z at c.in-ok-put-number.ensures in
-    let q : vec_items c.put-number-2.new.out ≡ vec_items c.push.new.self ++ signed_decimal c.args.place.y = simp to_z-of_z at c.in-ok-put-number-2.ensures in
-    four o _ _ _ _ (signed_decimal c.args.place.x) (32 ∷ []) (signed_decimal c.args.place.y) (10 ∷ []) p c.in-ok-push.ensures.items q c.in-ok-push-2.ensures.items
+    let p : vec_items c.put_number.new.out ≡ o ++ signed_decimal c.args.place.x = simp to_z-of_z at c.in_ok-put_number.ensures in
+    let q : vec_items c.put_number-2.new.out ≡ vec_items c.push.new.self ++ signed_decimal c.args.place.y = simp to_z-of_z at c.in_ok-put_number-2.ensures in
+    four o _ _ _ _ (signed_decimal c.args.place.x) (32 ∷ []) (signed_decimal c.args.place.y) (10 ∷ []) p c.in_ok-push.ensures.items q c.in_ok-push-2.ensures.items

@@ -9,15 +9,15 @@ loop-left-init c =
     let z : c.args.count - c.args.count ≡ 0 = omega arith in
     (omega arith, refl, refl, rw z (none s.machine (vec_items s.targets) s.work c.place-end.result c.place-end.ensures))
 
-pub overflow-add-end : goal.overflow-add-end
-overflow-add-end c =
+pub overflow_add-end : goal.overflow_add-end
+overflow_add-end c =
     let i = c.loop-left.invariant in
     let x : SFits w64 c.loop-left.end.x = search rules in
     let d : SFits w64 c.tick-pulses.result.x = search rules in
     simp to_z-of_z (sums_fit c.loop-left.control _ _ _ _ c.loop-left.end c.tick-pulses.result i.2 i.3 c.tick-pulses.ensures.pulses).0
 
-pub overflow-add-end-in-loop-left : goal.overflow-add-end-in-loop-left
-overflow-add-end-in-loop-left c =
+pub overflow_add-end-in-loop-left : goal.overflow_add-end-in-loop-left
+overflow_add-end-in-loop-left c =
     let i = c.loop-left.invariant in
     let y : SFits w64 c.loop-left.end.y = search rules in
     let d : SFits w64 c.tick-pulses.result.y = search rules in

@@ -10,7 +10,7 @@ loop-init c = sym (append-nil (string_bytes c.args.text.now))
 
 pub loop-preserved : goal.loop-preserved
 loop-preserved c =
-    c.in-ok-push-str.ensures.bytes
+    c.in_ok-push_str.ensures.bytes
     ∙ ap (λ (bs : List ℕ). bs ++ codes "  ") c.loop.invariant
     ∙ append_assoc (string_bytes c.args.text.now) (indented c.loop.counter) (codes "  ")
     ∙ ap (λ (bs : List ℕ). string_bytes c.args.text.now ++ bs) (sym (indented_more c.loop.counter))

@@ -12,7 +12,7 @@ loop-line-preserved c =
     let i : ℕ = c.loop-line.line-index in (
       omega (arith, depth_after_le (get_or c.args.lines.now i default) c.loop-line.depth, c.after-depth.ensures),
       ap (λ (d : ℕ). string_bytes c.put.new.text ++ written d (drop (i + 1) c.args.lines.now)) c.after-depth.ensures
-          ∙ written_more c.args.lines.now i default c.loop-line.depth (string_bytes c.loop-line.text) (string_bytes c.put.new.text) (omega arith) c.in-ok-put.ensures
+          ∙ written_more c.args.lines.now i default c.loop-line.depth (string_bytes c.loop-line.text) (string_bytes c.put.new.text) (omega arith) c.in_ok-put.ensures
           ∙ c.loop-line.invariant.1,
     )
 

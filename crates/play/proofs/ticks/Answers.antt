@@ -3,4 +3,4 @@ use Rattle.play.proofs.ticks.Goals as goal
 
 -- a cleared buffer is not full, so a tick at least is made
 pub loop-left-smaller : goal.loop-left-smaller
-loop-left-smaller c = c.in-ok-left-2.ensures.onward (omega (arith, ap length c.clear.ensures.items)) c.loop-left-test.true
+loop-left-smaller c = c.in_ok-left-2.ensures.onward (omega (arith, ap length c.clear.ensures.items)) c.loop-left-test.true

@@ -21,11 +21,11 @@ loop-left-preserved c =
       h.happened.machine ∙ i.1,
       h.happened.targets ∙ i.2,
       rw k (another s.machine v.machine (vec_items s.targets) (vec_items v.targets) s.work (vec_items c.args.out.now) (c.args.n - c.loop-left.left)
-          v.work c.tick-pulses.new.self.work (vec_items c.loop-left.out) (vec_items c.put-pulses.new.out) c.tick-pulses.result
-          i.1 i.2 i.3 h.happened.work h.pulses c.in-ok-put-pulses.ensures),
+          v.work c.tick-pulses.new.self.work (vec_items c.loop-left.out) (vec_items c.put_pulses.new.out) c.tick-pulses.result
+          i.1 i.2 i.3 h.happened.work h.pulses c.in_ok-put_pulses.ensures),
       left_over_again 65536 s.machine v.machine (vec_items s.targets) (vec_items v.targets) c.loop-left.left v.work c.tick-pulses.new.self.work
-          (vec_items c.loop-left.out) (vec_items c.put-pulses.new.out) c.tick-pulses.result
-          i.1 i.2 (omega arith) (omega (arith, c.loop-left.out.ok.0)) h.happened.work h.pulses c.in-ok-put-pulses.ensures
+          (vec_items c.loop-left.out) (vec_items c.put_pulses.new.out) c.tick-pulses.result
+          i.1 i.2 (omega arith) (omega (arith, c.loop-left.out.ok.0)) h.happened.work h.pulses c.in_ok-put_pulses.ensures
           ∙ i.4,
     )
 

@@ -7,7 +7,7 @@ use Rattle.text_message.proofs.explain.Goals as goal
 pub returns : goal.returns
 returns c =
     let rest : List ℕ = shown_word (word_at c.args.text.now c.args.fault.start c.args.fault.«end») ++ (codes ", expected " ++ expected_text c.args.fault.expected) in
-    in_a_row (string_bytes c.in-ok-words.words) c.in-ok-put-word.ensures (ap shown_word c.found.ensures) c.in-ok-push-str.ensures.bytes refl c.in-ok-push-str-2.ensures.bytes c.expected-words.ensures
-    ∙ ap (λ (bs : List ℕ). bs ++ rest) c.in-ok-words.ensures.ok
-    ∙ ap (λ (bs : List ℕ). codes "line " ++ bs) (append_assoc (decimal c.saturating-add-line.result) (codes ": found ") rest)
-    ∙ ap (λ (n : ℕ). codes "line " ++ (decimal n ++ (codes ": found " ++ rest))) c.saturating-add-line.ensures
+    in_a_row (string_bytes c.in_ok-words.words) c.in_ok-put_word.ensures (ap shown_word c.found.ensures) c.in_ok-push_str.ensures.bytes refl c.in_ok-push_str-2.ensures.bytes c.expected_words.ensures
+    ∙ ap (λ (bs : List ℕ). bs ++ rest) c.in_ok-words.ensures.ok
+    ∙ ap (λ (bs : List ℕ). codes "line " ++ bs) (append_assoc (decimal c.saturating_add-line.result) (codes ": found ") rest)
+    ∙ ap (λ (n : ℕ). codes "line " ++ (decimal n ++ (codes ": found " ++ rest))) c.saturating_add-line.ensures

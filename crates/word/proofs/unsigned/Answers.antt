@@ -22,5 +22,5 @@ loop-d-preserved c =
 pub returns : goal.returns
 returns c =
     let all = take_all c.loop-d.d-index c.args.digits.now (omega arith) in
-    let some : 0 < length c.args.digits.now = omega (arith, false-eqb (length c.args.digits.now) 0 c.if-is-empty.ensures) in
+    let some : 0 < length c.args.digits.now = omega (arith, false-eqb (length c.args.digits.now) 0 c.if-is_empty.ensures) in
     ap Some (c.loop-d.invariant.0 ∙ ap (λ (ds : List ℕ). min (digits_value 10 ds) (2 ^ 64 - 1)) all) ∙ sym (magnitude_all c.args.digits.now some (subst (AllDigits 10) all c.loop-d.invariant.1))

@@ -12,12 +12,12 @@ same q r a b m n e f g = rw (e, f, g)
 pub returns-then-p-ge0 : goal.returns-then-p-ge0
 returns-then-p-ge0 c =
     let p = c.args.p in
-    c.into-quarter.ensures.value
+    c.into_quarter.ensures.value
     ∙ same _ _ _ _ _ _ c.quarter-q.ensures.value (omega (arith, ints)) (omega (arith, ints))
     ∙ sym (index_first c.args.r p.x p.y (omega (arith, ints)) (omega (arith, ints)))
 
-pub overflow-add-result : goal.overflow-add-result
-overflow-add-result c = omega arith
+pub overflow_add-result : goal.overflow_add-result
+overflow_add-result c = omega arith
 
 pub returns-then-p-gt0-2 : goal.returns-then-p-gt0-2
 returns-then-p-gt0-2 c =
@@ -29,26 +29,26 @@ returns-then-p-gt0-2 c =
     ] in
     omega (
       arith,
-      c.into-quarter-then-p-gt0-2.ensures.value
+      c.into_quarter-then-p-gt0-2.ensures.value
           ∙ same _ _ _ _ (nat_abs p.y) (nat_abs p.x) c.quarter-q.ensures.value (omega (arith, ints)) (omega (arith, ints)),
       index_second c.args.r p.x p.y left (omega (arith, ints)),
     )
 
-pub overflow-add-result-then-p-lt0 : goal.overflow-add-result-then-p-lt0
-overflow-add-result-then-p-lt0 c = omega arith
+pub overflow_add-result-then-p-lt0 : goal.overflow_add-result-then-p-lt0
+overflow_add-result-then-p-lt0 c = omega arith
 
 pub returns-then-p-lt0 : goal.returns-then-p-lt0
 returns-then-p-lt0 c =
     let p = c.args.p in
     omega (
       arith,
-      c.into-quarter-then-p-lt0.ensures.value
+      c.into_quarter-then-p-lt0.ensures.value
           ∙ same _ _ _ _ (nat_abs p.x) (nat_abs p.y) c.quarter-q.ensures.value (omega (arith, ints)) (omega (arith, ints)),
       index_third c.args.r p.x p.y (omega (arith, ints)) (omega (arith, ints)),
     )
 
-pub overflow-add-result-2 : goal.overflow-add-result-2
-overflow-add-result-2 c = omega arith
+pub overflow_add-result-2 : goal.overflow_add-result-2
+overflow_add-result-2 c = omega arith
 
 pub returns : goal.returns
 returns c =
@@ -60,7 +60,7 @@ returns c =
     ] in
     omega (
       arith,
-      c.into-quarter-2.ensures.value
+      c.into_quarter-2.ensures.value
           ∙ same _ _ _ _ (nat_abs p.y) (nat_abs p.x) c.quarter-q.ensures.value (omega (arith, ints)) (omega (arith, ints)),
       index_fourth c.args.r p.x p.y (omega (arith, ints)) (omega (arith, ints)) past,
     )

@@ -10,6 +10,6 @@ returns-then-b-a c = record {
 
 pub returns-else-b-a : goal.returns-else-b-a
 returns-else-b-a c = record {
-  value = c.saturating-sub.ensures ∙ sym (into_high c.args.q c.args.a c.args.b c.if-b-a.false);
+  value = c.saturating_sub.ensures ∙ sym (into_high c.args.q c.args.a c.args.b c.if-b-a.false);
   bound = omega arith;
 }

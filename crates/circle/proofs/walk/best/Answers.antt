@@ -5,6 +5,6 @@ use Rattle.circle.proofs.walk.best.Goals as goal
 pub returns : goal.returns
 unfolding best
 returns c = record {
-  value = c.nearest-root.ensures.value ∙ ap nearest_root c.saturating-sub.ensures;
-  bound = c.nearest-root.ensures.bound;
+  value = c.nearest_root.ensures.value ∙ ap nearest_root c.saturating_sub.ensures;
+  bound = c.nearest_root.ensures.bound;
 }

@@ -3,4 +3,4 @@ use Rattle.circle.proofs.walk.quarter.Goals as goal
 
 pub returns : goal.returns
 unfolding quarter
-returns c = record { value = c.nearest-root.ensures.value; bound = c.nearest-root.ensures.bound }
+returns c = record { value = c.nearest_root.ensures.value; bound = c.nearest_root.ensures.bound }

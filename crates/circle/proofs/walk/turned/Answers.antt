@@ -26,9 +26,9 @@ returns-in-2 c = record {
   bound = record { across = omega (arith, ints); along = omega (arith, ints) };
 }
 
-pub returns-in-default : goal.returns-in-default
+pub returns-in_default : goal.returns-in_default
 unfolding turns
-returns-in-default c =
+returns-in_default c =
     let e : c.args.n % 4 ≡ 3 = omega arith in
     record {
       value = same_place (omega (arith, ints)) (omega (arith, ints)) ∙ sym (turns_rest c.args.n 3 c.args.p e);

@@ -8,11 +8,11 @@ at : (ts : List Target) (i : ℕ) (d : Target) (b : Bool) → i < length ts → 
 unfolding near
 at ts i d b h e = rw (drop-cons ts i d h) (ap (λ (x : Bool). x && near (drop (suc i) ts)) e)
 
-pub returns-then-not-is-within : goal.returns-then-not-is-within
-returns-then-not-is-within c = at _ _ _ false c.loop-target-test.true c.if-not-is-within.ensures ∙ c.loop-target.invariant
+pub returns-then-not-is_within : goal.returns-then-not-is_within
+returns-then-not-is_within c = at _ _ _ false c.loop-target-test.true c.if-not-is_within.ensures ∙ c.loop-target.invariant
 
 pub loop-target-preserved : goal.loop-target-preserved
-loop-target-preserved c = rw add-one (at _ _ _ true c.loop-target-test.true c.if-not-is-within.ensures ∙ c.loop-target.invariant)
+loop-target-preserved c = rw add-one (at _ _ _ true c.loop-target-test.true c.if-not-is_within.ensures ∙ c.loop-target.invariant)
 
 pub returns : goal.returns
 unfolding near

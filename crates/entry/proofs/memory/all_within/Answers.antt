@@ -8,16 +8,16 @@ within_at : (m : ℕ) (xs : List ℤ) (i : ℕ) (b : Bool) → i < length xs →
 unfolding all_within
 within_at m xs i b h e = rw (drop-cons xs i (pos 0) h) (ap (λ (x : Bool). x && all_within m (drop (suc i) xs)) e)
 
-pub returns-then-unsigned-abs-m : goal.returns-then-unsigned-abs-m
-returns-then-unsigned-abs-m c =
+pub returns-then-unsigned_abs-m : goal.returns-then-unsigned_abs-m
+returns-then-unsigned_abs-m c =
     let f : SFits w64 (nth c.args.numbers.now c.loop-n.n-index) = search rules in
-    let a : c.unsigned-abs.result ≡ nat_abs (nth c.args.numbers.now c.loop-n.n-index) = simp to_z-of_z at c.unsigned-abs.ensures.value in
+    let a : c.unsigned_abs.result ≡ nat_abs (nth c.args.numbers.now c.loop-n.n-index) = simp to_z-of_z at c.unsigned_abs.ensures.value in
     within_at c.args.m c.args.numbers.now c.loop-n.n-index false c.loop-n-test.true (lt-false _ _ (omega arith)) ∙ c.loop-n.invariant
 
 pub loop-n-preserved : goal.loop-n-preserved
 loop-n-preserved c =
     let f : SFits w64 (nth c.args.numbers.now c.loop-n.n-index) = search rules in
-    let a : c.unsigned-abs.result ≡ nat_abs (nth c.args.numbers.now c.loop-n.n-index) = simp to_z-of_z at c.unsigned-abs.ensures.value in
+    let a : c.unsigned_abs.result ≡ nat_abs (nth c.args.numbers.now c.loop-n.n-index) = simp to_z-of_z at c.unsigned_abs.ensures.value in
     rw add-one (within_at c.args.m c.args.numbers.now c.loop-n.n-index true c.loop-n-test.true (le-true _ _ (omega arith)) ∙ c.loop-n.invariant)
 
 pub returns : goal.returns

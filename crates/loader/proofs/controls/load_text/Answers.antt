@@ -5,7 +5,7 @@ use Rattle.loader.proofs.controls.load_text.Goals as goal
 
 pub returns-in-Ok : goal.returns-in-Ok
 returns-in-Ok c =
-    let t = c.in-ok-targets.ensures in
+    let t = c.in_ok-targets.ensures in
     let l = c.in-Ok.ensures in (
       t.0,
       t.1,
@@ -19,5 +19,5 @@ returns-in-Ok c =
 
 pub returns-in-Err : goal.returns-in-Err
 returns-in-Err c =
-    let t = c.in-ok-targets.ensures in
+    let t = c.in_ok-targets.ensures in
     (t.0, t.1, record { first = inr (t.2, ap (load_of c.args.change c.args.top) (sym t.3) ∙ c.in-Err.ensures) })

@@ -5,9 +5,9 @@ use Rattle.program.proofs.entry.load.Goals as goal
 
 pub returns : goal.returns
 returns c =
-    let passed = c.in-ok-counts.ensures in
-    let long : c.in-ok-targets.targets.len ≡ length (said c.args.nodes.now) = c.in-ok-targets.ensures.len ∙ passed.targets in (
+    let passed = c.in_ok-counts.ensures in
+    let long : c.in_ok-targets.targets.len ≡ length (said c.args.nodes.now) = c.in_ok-targets.ensures.len ∙ passed.targets in (
       ap (refusal_of c.args.nodes.now) (sym c.min.ensures) ∙ passed.none,
-      refilled_whole c.in-ok-targets.targets.items c.as-mut-slice.result.now c.run.new.room (said c.args.nodes.now)
-          c.in-ok-targets.targets.len c.in-ok-run.ensures.2 (c.as-mut-slice.ensures.len ∙ long) long,
+      refilled_whole c.in_ok-targets.targets.items c.as_mut_slice.result.now c.run.new.room (said c.args.nodes.now)
+          c.in_ok-targets.targets.len c.in_ok-run.ensures.2 (c.as_mut_slice.ensures.len ∙ long) long,
     )

@@ -9,7 +9,7 @@ returns-in-Some c =
 
 pub loop-order-preserved : goal.loop-order-preserved
 loop-order-preserved c =
-    first_skip beyond c.args.orders.now c.loop-order.order-index _ (omega arith) (sym c.in-default.ensures) ∙ c.loop-order.invariant
+    first_skip beyond c.args.orders.now c.loop-order.order-index _ (omega arith) (sym c.in_default.ensures) ∙ c.loop-order.invariant
 
 pub returns : goal.returns
 returns c = sym (sym c.loop-order.invariant ∙ first_end beyond c.args.orders.now c.loop-order.order-index (omega arith))

@@ -4,17 +4,17 @@ use Rattle.script.specs.Words.{words}
 use Rattle.script.proofs.Scans.{words_gap}
 use Rattle.script.proofs.scanner.without_gap.Goals as goal
 
-pub returns-then-not-is-gap : goal.returns-then-not-is-gap
-returns-then-not-is-gap c =
+pub returns-then-not-is_gap : goal.returns-then-not-is_gap
+returns-then-not-is_gap c =
     rw (take_rest c.args.line.now c.loop-i.i) (record {
       same = c.loop-i.invariant;
-      stops = λ _. rw (get_or-drop c.loop-i.i c.args.line.now 0 0, add-zero c.loop-i.i) (sym c.if-not-is-gap.ensures);
+      stops = λ _. rw (get_or-drop c.loop-i.i c.args.line.now 0 0, add-zero c.loop-i.i) (sym c.if-not-is_gap.ensures);
     })
 
 pub loop-i-preserved : goal.loop-i-preserved
 loop-i-preserved c =
     let h : c.loop-i.i < length c.args.line.now = omega arith in
-    words_gap c.args.line.now c.loop-i.i h (sym c.if-not-is-gap.ensures) ∙ c.loop-i.invariant
+    words_gap c.args.line.now c.loop-i.i h (sym c.if-not-is_gap.ensures) ∙ c.loop-i.invariant
 
 pub returns : goal.returns
 returns c =

@@ -3,10 +3,10 @@ use Rattle.script.specs.Words.{begun, words}
 use Rattle.script.proofs.Scans.{words_letter, words_stop, words_end, gap_past}
 use Rattle.script.proofs.scanner.word_len.Goals as goal
 
-pub returns-then-is-gap : goal.returns-then-is-gap
-returns-then-is-gap c =
+pub returns-then-is_gap : goal.returns-then-is_gap
+returns-then-is_gap c =
     let h : c.loop-i.i < length c.args.line.now = omega arith in
-    let e = sym c.if-is-gap.ensures in
+    let e = sym c.if-is_gap.ensures in
     record {
       within = omega arith;
       value = sym c.loop-i.invariant ∙ words_stop c.args.line.now c.loop-i.i h e;
@@ -16,7 +16,7 @@ returns-then-is-gap c =
 pub loop-i-preserved : goal.loop-i-preserved
 loop-i-preserved c =
     let h : c.loop-i.i < length c.args.line.now = omega arith in
-    words_letter c.args.line.now c.loop-i.i h (sym c.if-is-gap.ensures) ∙ c.loop-i.invariant
+    words_letter c.args.line.now c.loop-i.i h (sym c.if-is_gap.ensures) ∙ c.loop-i.invariant
 
 pub returns : goal.returns
 returns c =

@@ -11,10 +11,10 @@ use Rattle.text.proofs.reader.read.Goals as goal
 pub loop-start-init : goal.loop-start-init
 unfolding lines
 loop-start-init c = (
-  c.word-start-start.ensures.within,
-  c.word-start-start.ensures.stops,
-  ap (λ (h : Held). reads Line h (scan_from c.args.text.now c.word-start-start.result) (end_of c.args.text.now)) c.new-draft.ensures
-      ∙ ap (λ (ws : List Found). reads Line empty ws (end_of c.args.text.now)) c.word-start-start.ensures.same,
+  c.word_start-start.ensures.within,
+  c.word_start-start.ensures.stops,
+  ap (λ (h : Held). reads Line h (scan_from c.args.text.now c.word_start-start.result) (end_of c.args.text.now)) c.new-draft.ensures
+      ∙ ap (λ (ws : List Found). reads Line empty ws (end_of c.args.text.now)) c.word_start-start.ensures.same,
 )
 
 pub loop-start-preserved : goal.loop-start-preserved
@@ -22,10 +22,10 @@ loop-start-preserved c =
     let text : List ℕ = c.args.text.now in
     let h : Held = held_of c.loop-start.draft in
     let k : Held = held_of c.step.new.self in (
-      c.word-start-start-in-loop-start.ensures.within,
-      c.word-start-start-in-loop-start.ensures.stops,
-      ap (λ (ws : List Found). reads c.in-Ok.next k ws (end_of text)) c.word-start-start-in-loop-start.ensures.same
-          ∙ word_taken text c.loop-start.start c.word-end-end.result c.loop-start.phase c.in-Ok.next h k c.word-end-end.ensures.word
+      c.word_start-start-in-loop-start.ensures.within,
+      c.word_start-start-in-loop-start.ensures.stops,
+      ap (λ (ws : List Found). reads c.in-Ok.next k ws (end_of text)) c.word_start-start-in-loop-start.ensures.same
+          ∙ word_taken text c.loop-start.start c.word_end-end.result c.loop-start.phase c.in-Ok.next h k c.word_end-end.ensures.word
           (ap (λ (t : Token). step t c.loop-start.phase h) (sym c.of.ensures) ∙ c.in-Ok.ensures)
           ∙ c.loop-start.invariant.2,
     )
@@ -36,12 +36,12 @@ returns-in-Err c =
     let h : Held = held_of c.loop-start.draft in
     let k : Held = held_of c.step.new.self in
     let i : ℕ = c.loop-start.start in
-    let j : ℕ = c.word-end-end.result in
+    let j : ℕ = c.word_end-end.result in
     let p : Phase = c.loop-start.phase in
     fault_told (read text) c.in-Err.fault (step c.of.result p h) h k (unreadable_at text i j c.expected.result) c.error.result c.error.ensures c.in-Err.ensures
     (λ none same.
     sym c.loop-start.invariant.2
-    ∙ word_refused text i j p h c.word-end-end.ensures.forward c.word-end-end.ensures.within c.word-end-end.ensures.word (ap (λ (t : Token). step t p h) (sym c.of.ensures) ∙ none)
+    ∙ word_refused text i j p h c.word_end-end.ensures.forward c.word_end-end.ensures.within c.word_end-end.ensures.word (ap (λ (t : Token). step t p h) (sym c.of.ensures) ∙ none)
     ∙ ap (λ (e : Expected). Err (unreadable_at text i j e)) (sym (c.expected.ensures ∙ ap (expected_of p) same)))
 
 pub returns-in-Ok-finish : goal.returns-in-Ok-finish

@@ -4,8 +4,8 @@ use Rattle.work.specs.declared.event.Event.TheVariants.{Knob}
 use Rattle.control.proofs.States.{ghosts, happened}
 use Rattle.control.proofs.control.Control.knob.Goals as goal
 
-pub invariant-of-self : goal.invariant-of-self
-invariant-of-self c = ghosts c.args.self.now (Knob c.args.percent) c.knob-self.result c.knob-self.ensures (ap (λ (w : Work). w.motion) c.knob-self.ensures)
+pub invariant_of-self : goal.invariant_of-self
+invariant_of-self c = ghosts c.args.self.now (Knob c.args.percent) c.knob-self.result c.knob-self.ensures (ap (λ (w : Work). w.motion) c.knob-self.ensures)
 
 pub returns : goal.returns
 returns c = happened c.args.self.now (Knob c.args.percent) c.knob-self.result c.knob-self.ensures

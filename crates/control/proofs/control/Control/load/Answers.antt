@@ -3,8 +3,8 @@ use Rattle.control.specs.Controls.{near}
 use Rattle.control.proofs.States.{fit_of, begins_there, reached_first}
 use Rattle.control.proofs.control.Control.load.Goals as goal
 
-pub invariant-of-result : goal.invariant-of-result
-invariant-of-result c = (
-  fit_of c.args.change c.args.top c.in-ok-machine.machine c.in-ok-machine.ensures,
-  (ap near (sym c.deref.ensures.value) ∙ sym c.if-not-all-near.ensures, (reached_first _ _ c.begin.result c.begin.ensures, (begins_there (vec_items c.args.targets) c.begin.result c.begin.ensures, tt))),
+pub invariant_of-result : goal.invariant_of-result
+invariant_of-result c = (
+  fit_of c.args.change c.args.top c.in_ok-machine.machine c.in_ok-machine.ensures,
+  (ap near (sym c.deref.ensures.value) ∙ sym c.if-not-all_near.ensures, (reached_first _ _ c.begin.result c.begin.ensures, (begins_there (vec_items c.args.targets) c.begin.result c.begin.ensures, tt))),
 )

@@ -18,41 +18,41 @@ returns-then-behind-len c =
     let g = gives s s.work p p _ h refl refl (sym (still p)) in
     record { happened = happened s Tick s.work h; pulses = g; few = subst (Few s.machine (vec_items s.targets) s.work) (sym g) (few s) }
 
-pub tick-toward-work-requires : goal.tick-toward-work-requires
-tick-toward-work-requires c =
+pub tick_toward-work-requires : goal.tick_toward-work-requires
+tick_toward-work-requires c =
     let s = c.args.self.now in
     record { slow = slow_toward s c.index-target.result.now (omega (arith, s.targets.ok.0)) c.index-target.ensures }
 
-pub place-after-at-requires : goal.place-after-at-requires
-place-after-at-requires c =
+pub place_after-at-requires : goal.place_after-at-requires
+place_after-at-requires c =
     let s = c.args.self.now in
-    record { near = near_toward s c.index-target.result.now (omega (arith, s.targets.ok.0)) c.index-target.ensures c.tick-toward-work.result c.tick-toward-work.ensures }
+    record { near = near_toward s c.index-target.result.now (omega (arith, s.targets.ok.0)) c.index-target.ensures c.tick_toward-work.result c.tick_toward-work.ensures }
 
 pub between-pulses-requires : goal.between-pulses-requires
 between-pulses-requires c =
     let s = c.args.self.now in
     let i : s.work.motion.behind < length (vec_items s.targets) = omega (arith, s.targets.ok.0) in
-    let h = ticks s c.index-target.result.now i c.index-target.ensures c.tick-toward-work.result c.tick-toward-work.ensures in
-    let l = lands_at s c.index-target.result.now i c.index-target.ensures c.tick-toward-work.result c.tick-toward-work.ensures c.place-after-at.result c.place-after-at.ensures in
-    record { before = rw s.stood (place_near s); after = rw l (lands_near s Tick c.tick-toward-work.result h) }
+    let h = ticks s c.index-target.result.now i c.index-target.ensures c.tick_toward-work.result c.tick_toward-work.ensures in
+    let l = lands_at s c.index-target.result.now i c.index-target.ensures c.tick_toward-work.result c.tick_toward-work.ensures c.place_after-at.result c.place_after-at.ensures in
+    record { before = rw s.stood (place_near s); after = rw l (lands_near s Tick c.tick_toward-work.result h) }
 
-pub invariant-of-self : goal.invariant-of-self
-invariant-of-self c =
+pub invariant_of-self : goal.invariant_of-self
+invariant_of-self c =
     let s = c.args.self.now in
     let i : s.work.motion.behind < length (vec_items s.targets) = omega (arith, s.targets.ok.0) in
-    ghosts_at s Tick c.tick-toward-work.result c.place-after-at.result
-    (ticks s c.index-target.result.now i c.index-target.ensures c.tick-toward-work.result c.tick-toward-work.ensures)
-    (lands_at s c.index-target.result.now i c.index-target.ensures c.tick-toward-work.result c.tick-toward-work.ensures c.place-after-at.result c.place-after-at.ensures)
+    ghosts_at s Tick c.tick_toward-work.result c.place_after-at.result
+    (ticks s c.index-target.result.now i c.index-target.ensures c.tick_toward-work.result c.tick_toward-work.ensures)
+    (lands_at s c.index-target.result.now i c.index-target.ensures c.tick_toward-work.result c.tick_toward-work.ensures c.place_after-at.result c.place_after-at.ensures)
 
 pub returns : goal.returns
 returns c =
     let s = c.args.self.now in
     let i : s.work.motion.behind < length (vec_items s.targets) = omega (arith, s.targets.ok.0) in
-    let h = ticks s c.index-target.result.now i c.index-target.ensures c.tick-toward-work.result c.tick-toward-work.ensures in
-    let l = lands_at s c.index-target.result.now i c.index-target.ensures c.tick-toward-work.result c.tick-toward-work.ensures c.place-after-at.result c.place-after-at.ensures in
-    let g = gives s c.tick-toward-work.result s.at c.place-after-at.result c.between-pulses.result h s.stood l c.between-pulses.ensures in
+    let h = ticks s c.index-target.result.now i c.index-target.ensures c.tick_toward-work.result c.tick_toward-work.ensures in
+    let l = lands_at s c.index-target.result.now i c.index-target.ensures c.tick_toward-work.result c.tick_toward-work.ensures c.place_after-at.result c.place_after-at.ensures in
+    let g = gives s c.tick_toward-work.result s.at c.place_after-at.result c.between-pulses.result h s.stood l c.between-pulses.ensures in
     record {
-      happened = happened s Tick c.tick-toward-work.result h;
+      happened = happened s Tick c.tick_toward-work.result h;
       pulses = g;
       few = subst (Few s.machine (vec_items s.targets) s.work) (sym g) (few s);
     }

@@ -19,5 +19,5 @@ returns c =
     let fx : SFits w64 t.to.x = search rules in
     let fy : SFits w64 t.to.y = search rules in
     let k : (3 * n + 3) - 3 * n ≡ 3 = omega arith in
-    put_over c.args.room.now c.copy-from-slice.new.self (in_numbers t) (3 * n) ((3 * n + 3) - 3 * n)
-    (c.copy-from-slice.ensures.after ∙ three (to_z-of_z w64 _ fx) (to_z-of_z w64 _ fy) (to_z_pos w64 _ (omega (arith, c.requires.slow)))) k
+    put_over c.args.room.now c.copy_from_slice.new.self (in_numbers t) (3 * n) ((3 * n + 3) - 3 * n)
+    (c.copy_from_slice.ensures.after ∙ three (to_z-of_z w64 _ fx) (to_z-of_z w64 _ fy) (to_z_pos w64 _ (omega (arith, c.requires.slow)))) k

@@ -3,4 +3,4 @@ use Rattle.text.proofs.Drafts.{outside_is}
 use Rattle.text.proofs.draft.Draft.is_outside.Goals as goal
 
 pub returns : goal.returns
-returns c = c.is-empty.ensures ∙ outside_is _ _ c.args.self.now.blocks.ok.0
+returns c = c.is_empty.ensures ∙ outside_is _ _ c.args.self.now.blocks.ok.0

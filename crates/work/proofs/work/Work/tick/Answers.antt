@@ -6,4 +6,4 @@ unfolding toward
 returns-in-None c = rw c.in-None.is
 
 pub returns-in-Some : goal.returns-in-Some
-returns-in-Some c = rw c.in-Some.is c.tick-toward.ensures
+returns-in-Some c = rw c.in-Some.is c.tick_toward.ensures
