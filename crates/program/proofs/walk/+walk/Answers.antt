@@ -101,14 +101,14 @@ returns-in-Sub g t c =
     walked_as g.T.Slot.slots g.T.Slot.width c.args.room.now c.args.state.now _ _ c.walk-in-Sub.result c.walk-in-Sub.new.state c.walk-in-Sub.new.room
     (step.says_sub c.requires c.in-Sub.body c.in-Sub.ensures) c.walk-in-Sub.ensures
 
-pub returns-in_err-walk : goal.returns-in_err-walk
-returns-in_err-walk g t c =
-    rw (err_from_is_err_and c.from-residual.result c.from-residual.ensures.1).1
+pub returns-in_err-walk-in-Next : goal.returns-in_err-walk-in-Next
+returns-in_err-walk-in-Next g t c =
+    rw (err_from_is_err_and c.from_residual.result c.from_residual.ensures.1).1
     (ap (λ (w : Went). first_in reached c.args.state.now.said w.says) (step.says_next c.requires c.in-Next.a c.in-Next.b c.in-Next.ensures)
     ∙ walked_stops g.T.Slot.slots g.T.Slot.width c.args.room.now c.args.state.now c.walk.new.state
     (went_in c.args.frame (meant c.args.nodes.now c.in-Next.a) c.args.state.now.at)
     (went_in c.args.frame (meant c.args.nodes.now c.in-Next.b) (went_in c.args.frame (meant c.args.nodes.now c.in-Next.a) c.args.state.now.at).ends)
-    c.in_err-walk.ensures)
+    c.in_err-walk-in-Next.ensures)
 
 pub walk-requires-in-Next : goal.walk-requires-in-Next
 walk-requires-in-Next g t c κs within =
@@ -118,18 +118,18 @@ walk-requires-in-Next g t c κs within =
         within,
         rw c.walk.auto.room
             (step.second_ready c.requires c.in-Next.a c.in-Next.b c.in-Next.ensures c.walk.new.state
-            c.in_ok-walk.ensures.within c.in_ok-walk.ensures.said),
+            c.in_ok-walk-in-Next.ensures.within c.in_ok-walk-in-Next.ensures.said),
       ),
     )
 
-pub returns-in_ok-walk : goal.returns-in_ok-walk
-returns-in_ok-walk g t c =
+pub returns-in_ok-walk-in-Next : goal.returns-in_ok-walk-in-Next
+returns-in_ok-walk-in-Next g t c =
     walked_as g.T.Slot.slots g.T.Slot.width c.args.room.now c.args.state.now _ _ c.walk-in-Next.result c.walk-in-Next.new.state c.walk-in-Next.new.room
     (step.says_next c.requires c.in-Next.a c.in-Next.b c.in-Next.ensures)
     (walked_followed g.T.Slot.slots g.T.Slot.width g.met.T.Slot.sized c.args.room.now c.args.state.now c.walk.new.state
     (went_in c.args.frame (meant c.args.nodes.now c.in-Next.a)) (went_in c.args.frame (meant c.args.nodes.now c.in-Next.b))
     c.args.state.now.at c.walk-in-Next.result c.walk-in-Next.new.state c.walk.new.room c.walk-in-Next.new.room
-    (step.roomy_before c.requires) c.in_ok-walk.ensures c.walk-in-Next.ensures)
+    (step.roomy_before c.requires) c.in_ok-walk-in-Next.ensures c.walk-in-Next.ensures)
 
 pub walk-requires-in-loop : goal.walk-requires-in-loop
 walk-requires-in-loop g t c κs within =
@@ -143,20 +143,20 @@ walk-requires-in-loop g t c κs within =
       ),
     )
 
-pub returns-in_err-walk-2 : goal.returns-in_err-walk-2
-returns-in_err-walk-2 g t c =
-    rw (err_from_is_err_and c.from-residual-in_err-walk-2.result c.from-residual-in_err-walk-2.ensures.1).1
+pub returns-in_err-walk-in-Times : goal.returns-in_err-walk-in-Times
+returns-in_err-walk-in-Times g t c =
+    rw (err_from_is_err_and c.from_residual-in_err-walk-in-Times.result c.from_residual-in_err-walk-in-Times.ensures.1).1
     (ap (λ (w : Went). first_in reached c.args.state.now.said w.says) (step.says_times c.requires c.in-Times.times c.in-Times.body c.in-Times.ensures)
     ∙ turn_stops g.T.Slot.slots g.T.Slot.width g.met.T.Slot.sized c.args.room.now c.args.state.now c.loop.state
     c.loop.counter c.in-Times.times (went_in c.args.frame (meant c.args.nodes.now c.in-Times.body))
-    c.in_err-walk-2.field-0.0 c.walk-in-loop.new.state c.loop.room c.walk-in-loop.new.room c.loop-test.true
-    (step.roomy_before c.requires) c.loop.invariant c.in_err-walk-2.ensures)
+    c.in_err-walk-in-Times.field-0.0 c.walk-in-loop.new.state c.loop.room c.walk-in-loop.new.room c.loop-test.true
+    (step.roomy_before c.requires) c.loop.invariant c.in_err-walk-in-Times.ensures)
 
 pub loop-preserved : goal.loop-preserved
 loop-preserved g t c =
     turn_more g.T.Slot.slots g.T.Slot.width g.met.T.Slot.sized c.args.room.now c.args.state.now c.loop.state c.loop.counter
     (went_in c.args.frame (meant c.args.nodes.now c.in-Times.body)) (Ok tt) c.walk-in-loop.new.state c.loop.room c.walk-in-loop.new.room
-    (step.roomy_before c.requires) c.loop.invariant c.in_ok-walk-2.ensures
+    (step.roomy_before c.requires) c.loop.invariant c.in_ok-walk-in-Times.ensures
 
 pub returns-after-loop : goal.returns-after-loop
 returns-after-loop g t c =
