@@ -103,7 +103,7 @@ returns-in-Sub g t c =
 
 pub returns-in_err-walk : goal.returns-in_err-walk
 returns-in_err-walk g t c =
-    rw (err_from_is_err_and c.from-residual.result c.from-residual.ensures.1).1
+    rw (err_from_is_err_and c.from_residual.result c.from_residual.ensures.1).1
     (ap (λ (w : Went). first_in reached c.args.state.now.said w.says) (step.says_next c.requires c.in-Next.a c.in-Next.b c.in-Next.ensures)
     ∙ walked_stops g.T.Slot.slots g.T.Slot.width c.args.room.now c.args.state.now c.walk.new.state
     (went_in c.args.frame (meant c.args.nodes.now c.in-Next.a) c.args.state.now.at)
@@ -145,7 +145,7 @@ walk-requires-in-loop g t c κs within =
 
 pub returns-in_err-walk-2 : goal.returns-in_err-walk-2
 returns-in_err-walk-2 g t c =
-    rw (err_from_is_err_and c.from-residual-in_err-walk-2.result c.from-residual-in_err-walk-2.ensures.1).1
+    rw (err_from_is_err_and c.from_residual-in_err-walk-2.result c.from_residual-in_err-walk-2.ensures.1).1
     (ap (λ (w : Went). first_in reached c.args.state.now.said w.says) (step.says_times c.requires c.in-Times.times c.in-Times.body c.in-Times.ensures)
     ∙ turn_stops g.T.Slot.slots g.T.Slot.width g.met.T.Slot.sized c.args.room.now c.args.state.now c.loop.state
     c.loop.counter c.in-Times.times (went_in c.args.frame (meant c.args.nodes.now c.in-Times.body))
