@@ -102,6 +102,10 @@ fit_of a t m e = by (in_range a) (in_range t) refl refl e
     by true false i j e = let z : ◌≡◌ {A = ℕ} 0 1 = cc in absurd (omega arith)
     by false y i j e = let z : ◌≡◌ {A = ℕ} 0 1 = cc in absurd (omega arith)
 
+-- what a control's ghost fields say of it
+abbrev Ghosts : Machine → List Target → Work → Place → Type 0
+Ghosts m ts w p = record { fits : fit m ≡ true; close : near ts ≡ true; reached : ∥ Reached m ts w ∥₁; stood : p ≡ place ts w.motion }
+
 module _ (c : Control) where
   abbrev ts : List Target
   ts = vec_items c.targets
@@ -112,11 +116,11 @@ module _ (c : Control) where
 
   -- what a control is, after an event: of one that doesn't move, and of one that leads to another place
   pub ghosts_at : (e : Event) (v : Work) (p : Place) → v ≡ happens c.machine ts e c.work → p ≡ place ts v.motion
-      → (fit c.machine ≡ true) × ((near ts ≡ true) × (∥ Reached c.machine ts v ∥₁ × ((p ≡ place ts v.motion) × Unit {0})))
-  ghosts_at e v p h k = (c.fits, (c.close, (reached_on c.machine ts c.work v e c.reached h, (k, tt))))
+      → Ghosts c.machine ts v p
+  ghosts_at e v p h k = record { fits = c.fits; close = c.close; reached = reached_on c.machine ts c.work v e c.reached h; stood = k }
 
   pub ghosts : (e : Event) (v : Work) → v ≡ happens c.machine ts e c.work → v.motion ≡ c.work.motion
-      → (fit c.machine ≡ true) × ((near ts ≡ true) × (∥ Reached c.machine ts v ∥₁ × ((c.at ≡ place ts v.motion) × Unit {0})))
+      → Ghosts c.machine ts v c.at
   ghosts e v h k = ghosts_at e v c.at h (c.stood ∙ ap (place ts) (sym k))
 
   pub happened : (e : Event) (v : Work) → v ≡ happens c.machine ts e c.work → Happened c.machine ts c.work e c.machine ts v
@@ -158,13 +162,18 @@ module _ (c : Control) where
       (∥∥₁_elim c.reached (ℤ_set _ _) (λ r. ap (λ (p : Place). p.y) (bounds.place_more c.machine ts us c.work.motion (safe c.machine ts c.work c.fits r))))
 
   pub pushed : (t : Target) (b : Bool) (us : List Target) → within 1000000000 t.to ≡ true → us ≡ cond b (ts ++ t ∷ []) ts
-      → (fit c.machine ≡ true) × ((near us ≡ true) × (∥ Reached c.machine us c.work ∥₁ × ((c.at ≡ place us c.work.motion) × Unit {0})))
-  pushed t true us k e = rw e (c.fits, (bounds.near_push ts t c.close k, (reached_more c.machine ts (t ∷ []) c.work c.fits c.reached, (c.stood ∙ stays (t ∷ []), tt))))
-  pushed t false us k e = rw e (c.fits, (c.close, (c.reached, (c.stood, tt))))
+      → Ghosts c.machine us c.work c.at
+  pushed t true us k e = rw e (record {
+    fits = c.fits;
+    close = bounds.near_push ts t c.close k;
+    reached = reached_more c.machine ts (t ∷ []) c.work c.fits c.reached;
+    stood = c.stood ∙ stays (t ∷ []);
+  })
+  pushed t false us k e = rw e (record { fits = c.fits; close = c.close; reached = c.reached; stood = c.stood })
 
   pub pushed_promise : (t : Target) (b : Bool) (us : List Target) → within 1000000000 t.to ≡ true → us ≡ cond b (ts ++ t ∷ []) ts
       → ∥ Promise c.machine origin us c.work ∥₁
-  pushed_promise t b us k e = ∥∥₁_map (pushed t b us k e).1.1.0 (λ r. promise_of c.machine us c.work c.fits r)
+  pushed_promise t b us k e = ∥∥₁_map (pushed t b us k e).reached (λ r. promise_of c.machine us c.work c.fits r)
 
   -- a tick toward t, the first of the targets still to go
   module _ (t : Target) (i : c.work.motion.behind < length ts) (e : t ≡ get_or ts c.work.motion.behind t) where
