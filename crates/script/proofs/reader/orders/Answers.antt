@@ -15,7 +15,7 @@ loop-rest-preserved-then-is_empty c = (
 
 pub loop-rest-preserved : goal.loop-rest-preserved
 loop-rest-preserved c = (
-  ap (λ os. orders_from (c.loop-rest.line + 1) os (lines c.first_line.result.1.now)) c.in_ok-push.ensures.items
+  ap (λ os. orders_from (c.loop-rest.line + 1) os (lines c.first_line.result.1.now)) c.in_ok-push-in-Ok.ensures.items
       ∙ sym (orders_more c.loop-rest.rest.now c.first_line.result.0.now c.first_line.result.1.now c.first_word.result.0.now (words c.first_word.result.1.now)
       c.first_line.ensures.value c.first_word.ensures c.loop-rest.line (vec_items c.loop-rest.orders) c.in-Ok.order
       (sym c.if-is_empty.ensures) c.in-Ok.ensures)
