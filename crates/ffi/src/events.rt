@@ -9,8 +9,7 @@ use entry::{Done, happen};
 
 // Does an event on the work in memory: 0 a tick, 1 a hold, 2 a go, 3 the knob turned to a number. The pulses go into
 // `moved`.
-#[unsafe(no_mangle)]
-pub extern "C" fn mill_happen(
+pub fn mill_happen(
     change: u64,
     top: u64,
     targets: &[i64],

@@ -16,8 +16,7 @@ use std::alloc::Global;
 const NO_MEMORY: u64 = u64::MAX;
 
 // Loads a program that says at most so many targets, makes so many ticks, and writes the sum of all pulses into `moved`.
-#[unsafe(no_mangle)]
-pub extern "C" fn mill_run(
+pub fn mill_run(
     heap: Global,
     change: u64,
     top: u64,

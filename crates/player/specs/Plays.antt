@@ -1,6 +1,6 @@
 -- What the contracts of the player cite. Assumes nothing.
 --   ticked m ts n w   the lines that n ticks print, from the work w on
---   left-over         how many of n ticks are left to make once there are `full` bytes to write out
+--   left_over         how many of n ticks are left to make once there are `full` bytes to write out
 --   Ran               what a run of up to n ticks leaves, with so many left to make
 use Rattle.std.specs.Prelude.{◌≡◌, ℕ, zero, suc, ◌-◌, ◌<◌, ◌≤◌, cond, List, [], ◌++◌, length, nat_le}
 use Rattle.program.specs.declared.target.Target.{Target}

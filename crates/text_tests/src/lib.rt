@@ -183,7 +183,8 @@ mod tests {
         let heap = rt.alloc();
         let names = "the number of a sub-program above, or the next one's before all other lines";
         let told = format!(in heap; "line 1: found `0`, expected {names}")?;
-        refuses(&rt, heap, b"sub 0 { sub 0; }", 0, told.as_str()).note("it uses itself")?;
+        // It uses itself.
+        refuses(&rt, heap, b"sub 0 { sub 0; }", 0, told.as_str())?;
         let late = format!(in heap; "line 2: found `0`, expected {names}")?;
         refuses(&rt, heap, b"by 1 1 fast 1;\nsub 0 { }", 1, late.as_str())?;
         refuses(
