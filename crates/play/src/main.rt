@@ -3,22 +3,26 @@
 #![tactic(auto)]
 
 use anyhow::anyhow;
-use control::{AddError, Control};
+use control::Control;
 use decimal::put_place;
 use message::Sentence;
 use player::run;
 use script::{Order, Script, read};
 use std::io::{Read, Write};
+use std::process::ExitCode;
 
-fn main(rt: HostRuntime) -> anyhow::Result<()> {
+fn main(rt: HostRuntime) -> anyhow::Result<ExitCode> {
     let mut text = Vec::new(rt.alloc());
     rt.stdin().read_to_end(&mut text)?;
     match read(rt.alloc(), &text) {
-        Ok(script) => play(&rt, &script),
+        Ok(script) => {
+            play(&rt, &script)?;
+            Ok(ExitCode::SUCCESS)
+        }
         Err(error) => {
             let sentence = Sentence(error);
             eprintln!(rt; "{sentence}")?;
-            Err(anyhow!("refused"))
+            Ok(ExitCode::FAILURE)
         }
     }
 }

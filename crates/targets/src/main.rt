@@ -2,13 +2,13 @@
 
 #![tactic(auto)]
 
-use anyhow::anyhow;
 use decimal::put_target;
 use loader::{Failure, targets};
 use message::ProgramSentence;
 use program::Target;
 use refusal::Refusal;
 use std::io::{Read, Write};
+use std::process::ExitCode;
 use text_message::explain;
 
 // How many targets there is room for.
@@ -17,14 +17,17 @@ const MOST: u64 = 1 << 24;
 // How many bytes are put before they are written out.
 const FULL: usize = 65_536;
 
-fn main(rt: HostRuntime) -> anyhow::Result<()> {
+fn main(rt: HostRuntime) -> anyhow::Result<ExitCode> {
     let mut text = Vec::new(rt.alloc());
     rt.stdin().read_to_end(&mut text)?;
     match targets(rt.alloc(), &text, MOST) {
-        Ok(targets) => print(&rt, &targets),
+        Ok(targets) => {
+            print(&rt, &targets)?;
+            Ok(ExitCode::SUCCESS)
+        }
         Err(failure) => {
             tell(&rt, &text, &failure)?;
-            Err(anyhow!("refused"))
+            Ok(ExitCode::FAILURE)
         }
     }
 }
