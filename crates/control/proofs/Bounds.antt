@@ -1,5 +1,5 @@
 -- What the code's sums and products ask for, of every state that a row of events leads to.
-use Rattle.std.proofs.Common.{◌≡◌, ℕ, zero, suc, ◌+◌, ◌-◌, ◌*◌, ◌^◌, ◌<◌, ◌≤◌, max, Bool, true, false, ◌&&◌, leb, List, [], ◌∷◌, ◌++◌, length, drop, nat_abs, Some, None, Option, sym, refl, ap, ◌∙◌, subst, arith}
+use Rattle.std.proofs.Common.{◌≡◌, ℕ, zero, suc, ◌+◌, ◌*◌, ◌^◌, ◌<◌, ◌≤◌, Bool, true, ◌&&◌, List, [], ◌∷◌, ◌++◌, length, drop, Option, sym, refl, ap, ◌∙◌, subst, arith}
 use lib.Seq.{drop-append-le}
 use Rattle.std.proofs.lemmas.Int.{ints}
 use Rattle.std.proofs.lemmas.Bool.{and_parts}
@@ -9,9 +9,8 @@ use Rattle.geometry.proofs.Acts.{within_true}
 use Rattle.geometry.specs.declared.place.Place.{Place}
 use Rattle.geometry.specs.Places.{within, Within}
 use Rattle.program.specs.declared.target.Target.{Target}
-use Rattle.line.specs.Lines.{long, on_line}
+use Rattle.line.specs.Lines.{long}
 use Rattle.line.proofs.Walk.{long_within, strays}
-use Rattle.speed.specs.Speeds.{stopping}
 use Rattle.speed.proofs.Stopping.{slows}
 use Rattle.work.specs.declared.machine.Machine.{Machine}
 use Rattle.work.specs.declared.motion.Motion.{Motion}
@@ -20,7 +19,7 @@ use Rattle.work.specs.declared.event.Event.{Event}
 use Rattle.work.specs.declared.event.Event.TheVariants.{Tick, Hold, Go, Knob}
 use Rattle.work.specs.Works.{todo, toward, does, happens, stands, place}
 use Rattle.work.specs.Promises.{start_of, CanStop}
-use Rattle.work.specs.Ranges.{Small, NearLine, Near, Slow, Ready}
+use Rattle.work.specs.Ranges.{NearLine, Near, Ready}
 use Rattle.work.proofs.Lists.{nil_cons, some_left}
 use Rattle.work.proofs.Safety.{Safe}
 use Rattle.work.proofs.Ticks.{begins}

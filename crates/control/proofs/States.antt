@@ -1,5 +1,5 @@
 -- The same of a loaded control, whose ghost fields say how its state came about.
-use Rattle.std.proofs.Common.{◌≡◌, ℕ, zero, suc, ◌+◌, ◌^◌, ◌<◌, ◌≤◌, Bool, true, false, cond, ◌⊎◌, List, [], ◌∷◌, ◌++◌, length, get_or, drop, Some, None, Ok, Err, vec_items, Option, sym, refl, ap, ◌∙◌, subst, inl, inr, ⊎_elim, arith, drop_of_length-le, drop-cons}
+use Rattle.std.proofs.Common.{◌≡◌, ℕ, suc, ◌<◌, ◌≤◌, Bool, true, false, cond, ◌⊎◌, List, [], ◌∷◌, ◌++◌, length, get_or, drop, Some, None, Ok, Err, vec_items, Option, sym, refl, ap, ◌∙◌, subst, inl, inr, ⊎_elim, arith, drop_of_length-le, drop-cons}
 use mathlib.Core.Logic.{∥∥₁_elim, ∥∥₁_map}
 use native.Mathlib.Bridge.{le_prop}
 use lib.IntN.{ℤ_set}
@@ -16,7 +16,7 @@ use Rattle.work.specs.declared.event.Event.{Event}
 use Rattle.work.specs.declared.event.Event.TheVariants.{Tick, Hold, Go, Knob}
 use Rattle.work.specs.Works.{todo, toward, does, happens, row, begun, after, after_tick, place}
 use Rattle.work.specs.Promises.{Promise}
-use Rattle.work.specs.Ranges.{Small, NearLine, Near, Slow, Ready}
+use Rattle.work.specs.Ranges.{NearLine, Near, Slow, Ready}
 use Rattle.work.proofs.Promise.{of_safe}
 use Rattle.work.proofs.Ticks.{begins, lands_after}
 use Rattle.work.proofs.Safety.{Safe, safe_after}

@@ -1,5 +1,5 @@
 -- What stands in memory after one piece and another was put behind it.
-use Rattle.std.proofs.Common.{◌≡◌, ℕ, zero, suc, ◌<◌, true, false, List, [], ◌∷◌, ◌++◌, ℤ, pos, negsuc, nat_abs, decimal, sym, refl, ap, ◌∙◌, append_assoc, arith, ltb-false, ltb-true}
+use Rattle.std.proofs.Common.{◌≡◌, ℕ, zero, suc, true, false, List, ◌∷◌, ◌++◌, ℤ, pos, negsuc, nat_abs, decimal, sym, refl, ap, ◌∙◌, append_assoc, arith, ltb-false, ltb-true}
 use borrow.Author.Tests.{clash}
 use lib.Signed.{lt_z}
 use Rattle.std.specs.Fmt.{signed_decimal}

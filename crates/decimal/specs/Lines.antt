@@ -3,7 +3,7 @@
 --   pulses_line      a tick's pulses
 --   place_line       a place
 --   target_line      a target, as a program and a script write it
-use Rattle.std.specs.Prelude.{ℕ, zero, suc, List, [], ◌∷◌, ◌++◌, ℤ, pos, negsuc, codes, decimal}
+use Rattle.std.specs.Prelude.{ℕ, zero, suc, List, ◌++◌, ℤ, pos, negsuc, codes, decimal}
 use Rattle.std.specs.Fmt.{signed_decimal}
 use Rattle.geometry.specs.declared.place.Place.{Place}
 use Rattle.program.specs.declared.target.Target.{Target}

@@ -1,26 +1,22 @@
 -- A loaded control's numbers are taken, and say its work.
-use Rattle.std.proofs.Common.{◌≡◌, ℕ, zero, suc, ◌+◌, ◌-◌, ◌*◌, ◌/◌, ◌%◌, ◌<◌, ◌≤◌, min, max, Bool, true, false, cond, ◌&&◌, eqb, leb, ◌⊎◌, List, [], ◌∷◌, length, drop, ℤ, pos, nat_abs, None, sym, refl, ap, ◌∙◌, subst, inl, inr, ⊎_elim, arith, eq-eqb, le-leb}
+use Rattle.std.proofs.Common.{◌≡◌, ℕ, suc, ◌*◌, ◌/◌, ◌%◌, ◌≤◌, min, max, Bool, true, false, cond, eqb, leb, List, [], ◌∷◌, length, nat_abs, None, sym, refl, ap, ◌∙◌, subst, ⊎_elim, arith, eq-eqb, le-leb}
 use Rattle.std.proofs.lemmas.Nat.{mul-le, div_below}
 use Rattle.std.proofs.lemmas.Bool.{and_parts}
-use Rattle.geometry.specs.declared.place.Place.{Place}
-use Rattle.geometry.specs.Places.{within, Within}
+use Rattle.geometry.specs.Places.{Within}
 use Rattle.program.specs.declared.target.Target.{Target}
-use Rattle.line.specs.Lines.{long}
-use Rattle.line.proofs.Walk.{long_within}
 use Rattle.work.specs.declared.machine.Machine.{Machine}
 use Rattle.work.specs.declared.motion.Motion.{Motion}
 use Rattle.work.specs.declared.panel.Panel.{Panel}
 use Rattle.work.specs.declared.work.Work.{Work}
 use Rattle.work.specs.declared.event.Event.{Event}
 use Rattle.work.specs.declared.event.Event.TheVariants.{Tick, Hold, Go, Knob}
-use Rattle.work.specs.Works.{limit, todo, tick, happens, row, after, begun}
+use Rattle.work.specs.Works.{limit, todo, happens, row, after}
 use Rattle.work.specs.Promises.{cap_now, made, Moved, Ticked}
 use Rattle.work.proofs.Safety.{Safe, safe_after}
 use Rattle.work.proofs.Ticks.{ticked}
 use Rattle.control.specs.Controls.{in_range, fit, near, origin, Reached}
 use Rattle.control.proofs.Bounds.{range, from_near, steps_near}
-use Rattle.entry.specs.Entries.{targets_in, work_in, memory_of, all_within, sound, checks, refusal_of, DoneSays}
-use Rattle.program.specs.Nodes.{size}
+use Rattle.entry.specs.Entries.{targets_in, work_in, memory_of, all_within, sound, refusal_of}
 use Rattle.entry.specs.Agreement.{flat, Agrees}
 
 said : (ts : List Target) → targets_in (flat ts) ≡ ts

@@ -1,9 +1,8 @@
 -- What holds where no check fails.
-use Rattle.std.proofs.Common.{◌≡◌, ℕ, zero, suc, ◌%◌, ◌≤◌, Bool, true, false, cond, ◌&&◌, eqb, leb, List, [], ◌∷◌, length, get_or, ℤ, pos, negsuc, nat_abs, Some, None, Option, sym, refl, ap, ◌∙◌, arith, eqb-true, leb-true}
-use Rattle.std.proofs.lemmas.Bool.Decides.{nat_tests}
+use Rattle.std.proofs.Common.{◌≡◌, ℕ, zero, suc, ◌%◌, ◌≤◌, Bool, true, false, cond, eqb, List, [], ◌∷◌, length, ℤ, pos, negsuc, nat_abs, Some, None, Option, refl, arith, eqb-true, leb-true}
 use Rattle.std.proofs.lemmas.Bool.{and_parts}
 use Rattle.refusal.specs.declared.Refusal.{Refusal}
-use Rattle.geometry.specs.Places.{within, Within}
+use Rattle.geometry.specs.Places.{within}
 use Rattle.control.specs.Controls.{in_range, near}
 use Rattle.entry.specs.Entries.{nth, targets_in, work_in, all_within, sound, refusal_of, InRange}
 use Rattle.program.specs.Nodes.{size}

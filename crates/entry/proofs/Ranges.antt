@@ -1,12 +1,11 @@
 -- Numbers that passed the checks stay in the ranges that the code asks for, through one event.
-use Rattle.std.proofs.Common.{◌≡◌, ℕ, zero, suc, ◌+◌, ◌-◌, ◌*◌, ◌^◌, ◌<◌, ◌≤◌, max, Bool, true, false, cond, List, [], ◌∷◌, length, drop, nat_abs, Some, None, Option, sym, refl, ap, ◌∙◌, subst, inl, inr, arith}
+use Rattle.std.proofs.Common.{◌≡◌, ◌+◌, ◌-◌, ◌*◌, ◌^◌, ◌<◌, ◌≤◌, true, List, [], ◌∷◌, Option, sym, refl, subst, inl, inr, arith}
 use Rattle.std.proofs.lemmas.Int.{ints}
 use Rattle.std.proofs.lemmas.Bool.{cases_lt}
 use Rattle.geometry.specs.Places.{Within}
 use Rattle.program.specs.declared.target.Target.{Target}
-use Rattle.line.specs.Lines.{long, on_line}
+use Rattle.line.specs.Lines.{long}
 use Rattle.line.proofs.Walk.{long_within, strays}
-use Rattle.speed.specs.Speeds.{next_speed}
 use Rattle.speed.proofs.Fastest.{no_more}
 use Rattle.work.specs.declared.machine.Machine.{Machine}
 use Rattle.work.specs.declared.motion.Motion.{Motion}
@@ -15,9 +14,9 @@ use Rattle.work.specs.declared.work.Work.{Work}
 use Rattle.work.specs.declared.event.Event.{Event}
 use Rattle.work.specs.declared.event.Event.TheVariants.{Tick, Hold, Go, Knob}
 use Rattle.work.specs.Works.{limit, steps, todo, tick, happens, stands, place}
-use Rattle.work.specs.Ranges.{Small, NearLine, Near, Slow, Ready}
+use Rattle.work.specs.Ranges.{Near, Ready}
 use Rattle.work.proofs.Ticks.{none, going, ending}
-use Rattle.control.specs.Controls.{fit, near, head_of}
+use Rattle.control.specs.Controls.{near, head_of}
 use Rattle.control.proofs.Bounds.{near_in, range}
 use Rattle.entry.specs.Entries.{InRange}
 

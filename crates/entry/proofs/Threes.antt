@@ -1,10 +1,9 @@
 -- Targets of three numbers each: how many there are, and which one stands where.
-use Rattle.std.proofs.Common.{◌≡◌, ℕ, zero, suc, ◌+◌, ◌*◌, ◌/◌, ◌<◌, ◌≤◌, Bool, true, false, ◌&&◌, List, [], ◌∷◌, length, get_or, drop, ℤ, pos, Some, None, sym, refl, ap, ◌∙◌, arith, drop_of_length-le}
+use Rattle.std.proofs.Common.{◌≡◌, ℕ, zero, suc, ◌+◌, ◌*◌, ◌/◌, ◌<◌, ◌≤◌, Bool, true, ◌&&◌, List, [], ◌∷◌, length, drop, ℤ, Some, None, refl, ap, arith, drop_of_length-le}
 use Rattle.geometry.specs.Places.{within}
 use Rattle.program.specs.declared.target.Target.{Target}
 use Rattle.control.specs.Controls.{near, head_of}
 use Rattle.entry.specs.Entries.{target_of, targets_in, nth}
-use Rattle.program.specs.Nodes.{size}
 
 pub how_many : (xs : List ℤ) → length (targets_in xs) ≡ length xs / 3
 unfolding targets_in

@@ -9,10 +9,9 @@
 --   first cs         the refusal of the first check that fails
 --   checks, refusal_of   the checks of an event on lent numbers, in the order of the list, and the first that fails
 --   DoneSays        what the entry answers and what memory holds then
-use Rattle.std.specs.Prelude.{◌≡◌, ℕ, ◌%◌, ◌≤◌, Bool, true, false, cond, ◌&&◌, List, [], ◌∷◌, length, ℤ, pos, Some, None, Option, ◌==◌, nat_le, slice_index_or, unsigned_abs}
+use Rattle.std.specs.Prelude.{◌≡◌, ℕ, ◌%◌, ◌≤◌, Bool, true, cond, ◌&&◌, List, [], ◌∷◌, length, ℤ, pos, Some, None, Option, ◌==◌, nat_le, slice_index_or, unsigned_abs}
 use Rattle.refusal.specs.declared.Refusal.{Refusal}
 use Rattle.refusal.specs.declared.Refusal.TheVariants.{Machine as Unfit, Lent, Event as Unknown}
-use Rattle.geometry.specs.declared.place.Place.{Place}
 use Rattle.geometry.specs.Places.{within, Within}
 use Rattle.program.specs.Nodes.{size}
 use Rattle.program.specs.declared.target.Target.{Target}

@@ -1,10 +1,10 @@
 -- A line in a moved, turned or mirrored frame is the line moved, turned or mirrored.
-use Rattle.std.proofs.Common.{◌≡◌, ℕ, max, ℤ, pos, ◌+ℤ◌, ◌-ℤ◌, nat_abs, refl, ap, ◌∙◌, arith}
+use Rattle.std.proofs.Common.{◌≡◌, ℕ, refl, arith}
 use Rattle.std.proofs.lemmas.Int.{ints}
 use Rattle.geometry.proofs.Acts.{same_place}
 use Rattle.geometry.specs.declared.place.Place.{Place}
 use Rattle.geometry.specs.Places.{moved, turned, mirrored}
-use Rattle.line.specs.Lines.{share, long, on_line}
+use Rattle.line.specs.Lines.{long, on_line}
 use Rattle.line.proofs.Shares.{moved_axis, back_axis}
 
 pub moved_long : (d p q : Place) → long (moved d p) (moved d q) ≡ long p q

@@ -12,7 +12,7 @@ use Rattle.program.proofs.Meanings.{in_none, in_count, in_nothing, in_to, in_by,
 use Rattle.program.proofs.Naming.{meant_step}
 use Rattle.program.specs.Answers.{names_below}
 use Rattle.program.specs.Nodes.{size, number, node_of, node_in, program}
-use Rattle.program.specs.Programs.{Program, stay, going, followed, again, count, to, at}
+use Rattle.program.specs.Programs.{Program, stay, going, followed, again, count}
 use Rattle.program.specs.Walks.{meant, counted, Sound, Ready, went_in}
 use Rattle.program.specs.declared.node.Node.{Node}
 use Rattle.program.specs.declared.node.Node.TheVariants.{Nothing, To, By, Next, Times, At, Turn, Mirror, Sub}

@@ -1,5 +1,5 @@
 -- The motor's place is the work's: the pulses of a row add up.
-use Rattle.std.proofs.Common.{◌≡◌, ℕ, zero, ◌≤◌, max, List, [], ◌∷◌, ℤ, pos, ◌+ℤ◌, ◌-ℤ◌, nat_abs, sym, refl, ap, ◌∙◌, arith}
+use Rattle.std.proofs.Common.{◌≡◌, List, [], ◌∷◌, pos, sym, refl, ap, ◌∙◌, arith}
 use Rattle.std.proofs.lemmas.Int.{ints}
 use Rattle.geometry.specs.declared.place.Place.{Place}
 use Rattle.program.specs.declared.target.Target.{Target}
@@ -8,8 +8,7 @@ use Rattle.work.specs.declared.machine.Machine.{Machine}
 use Rattle.work.specs.declared.work.Work.{Work}
 use Rattle.work.specs.declared.event.Event.{Event}
 use Rattle.work.specs.declared.event.Event.TheVariants.{Tick, Hold, Go, Knob}
-use Rattle.work.specs.Works.{todo, tick, row, happens, begun, after, place, stands}
-use Rattle.work.specs.Promises.{Fit, cap_now, made}
+use Rattle.work.specs.Works.{row, begun, after, place}
 use Rattle.work.proofs.Promise.{promised}
 use Rattle.work.proofs.Ticks.{begins}
 use Rattle.pulses.specs.declared.Pulses.{Pulses}

@@ -5,7 +5,7 @@
 --   motor p ds        where a motor that began at p is after all of them
 --   MotorLaws        the motor's place is where it began plus the sum of its pulses, and that is the place of the work;
 --                     only ticks give pulses, and no axis gets more in a tick than the cap or the speed it had
-use Rattle.std.specs.Prelude.{◌≡◌, ℕ, ◌≤◌, max, List, [], ◌∷◌, pos, ◌+ℤ◌, ◌-ℤ◌, ◌≢◌, unsigned_abs}
+use Rattle.std.specs.Prelude.{◌≡◌, ◌≤◌, max, List, [], ◌∷◌, pos, ◌+ℤ◌, ◌-ℤ◌, ◌≢◌, unsigned_abs}
 use Rattle.geometry.specs.declared.place.Place.{Place}
 use Rattle.program.specs.declared.target.Target.{Target}
 use Rattle.work.specs.declared.machine.Machine.{Machine}

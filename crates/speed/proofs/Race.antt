@@ -1,7 +1,7 @@
 -- Fewest ticks, on numbers: our speeds against those of any other run that keeps the limits and ends in time.
-use Rattle.std.proofs.Common.{◌≡◌, ℕ, zero, suc, ◌+◌, ◌-◌, ◌*◌, ◌<◌, ◌≤◌, min, max, ◌⊎◌, sym, refl, ap, ◌∙◌, inl, inr, arith}
+use Rattle.std.proofs.Common.{◌≡◌, ℕ, suc, ◌+◌, ◌-◌, ◌<◌, ◌≤◌, min, max, ◌⊎◌, refl, inl, inr, arith}
 use Rattle.std.proofs.lemmas.Bool.{cases_lt}
-use Rattle.speed.specs.Speeds.{stopping, fastest, next_speed, Pace, pace}
+use Rattle.speed.specs.Speeds.{stopping, fastest, next_speed, pace}
 use Rattle.speed.specs.Laws.{Next, Lawful, Run, begin, further}
 use Rattle.speed.proofs.Stopping.{slow, slows, grows}
 use Rattle.speed.proofs.Fastest.{at_most, fits, best, next}

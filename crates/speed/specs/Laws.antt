@@ -2,7 +2,7 @@
 --   Next          what holds of the next speed n after v: by how much it changes, when it is above the cap, and that it can still stop
 --   Run           a row of speeds, the last one outermost, that keeps the limits: n ticks from x and v to y and w
 --   SpeedLaws    the statements, proved of the definitions
-use Rattle.std.specs.Prelude.{◌≡◌, ℕ, zero, suc, ◌+◌, ◌-◌, ◌<◌, ◌≤◌, max, ◌⊎◌}
+use Rattle.std.specs.Prelude.{◌≡◌, ℕ, suc, ◌+◌, ◌-◌, ◌≤◌, ◌⊎◌}
 use Rattle.speed.specs.Speeds.{stopping, next_speed, pace}
 
 pub record Next (a c left v n : ℕ) : Type 0 where

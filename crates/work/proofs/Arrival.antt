@@ -1,5 +1,5 @@
 -- Rows of ticks; and that, with caps of at least 1, they lead to the last target.
-use Rattle.std.proofs.Common.{◌≡◌, ℕ, zero, suc, ◌+◌, ◌-◌, ◌*◌, ◌<◌, ◌≤◌, max, ◌⊎◌, List, [], ◌∷◌, length, drop, sym, refl, ap, ◌∙◌, subst, inl, inr, ⊎_elim, arith}
+use Rattle.std.proofs.Common.{◌≡◌, ℕ, zero, suc, ◌+◌, ◌-◌, ◌<◌, ◌≤◌, max, List, [], ◌∷◌, length, drop, sym, refl, ap, ◌∙◌, subst, ⊎_elim, arith}
 use Rattle.geometry.specs.declared.place.Place.{Place}
 use Rattle.program.specs.declared.target.Target.{Target}
 use Rattle.line.specs.Lines.{long}
@@ -8,7 +8,7 @@ use Rattle.work.specs.declared.motion.Motion.{Motion}
 use Rattle.work.specs.declared.panel.Panel.{Panel}
 use Rattle.work.specs.declared.work.Work.{Work}
 use Rattle.work.specs.declared.event.Event.TheVariants.{Tick}
-use Rattle.work.specs.Works.{limit, steps, todo, tick, happens, row, ticks, stands, place}
+use Rattle.work.specs.Works.{todo, tick, happens, row, ticks, stands}
 use Rattle.work.specs.Promises.{start_of, CanStop, GoesOn, EndsLine, Caps, to_go, Arrived}
 use Rattle.work.proofs.Lists.{next_todo, none_left}
 use Rattle.work.proofs.Ticks.{none, begins, ends_or_goes, next_of}

@@ -1,21 +1,20 @@
 -- Fewest ticks: work goes along its line as the pace on numbers does, so no other run is there before it.
-use Rattle.std.proofs.Common.{◌≡◌, ℕ, zero, suc, ◌+◌, ◌-◌, ◌*◌, ◌<◌, ◌≤◌, max, ◌⊎◌, List, [], ◌∷◌, length, drop, sym, refl, ap, ◌∙◌, inl, inr, ⊎_elim, arith}
+use Rattle.std.proofs.Common.{◌≡◌, ℕ, zero, suc, ◌+◌, ◌-◌, ◌<◌, ◌≤◌, ◌⊎◌, List, [], ◌∷◌, length, refl, ap, ◌∙◌, inl, inr, ⊎_elim, arith}
 use Rattle.std.proofs.lemmas.Bool.{cases_lt}
 use Rattle.geometry.specs.declared.place.Place.{Place}
 use Rattle.program.specs.declared.target.Target.{Target}
 use Rattle.line.specs.Lines.{long}
-use Rattle.speed.specs.Speeds.{pace, next_speed}
+use Rattle.speed.specs.Speeds.{pace}
 use Rattle.speed.specs.Laws.{Run}
 use Rattle.speed.proofs.Race.{fewest as fewest_on_numbers}
 use Rattle.work.specs.declared.machine.Machine.{Machine}
 use Rattle.work.specs.declared.motion.Motion.{Motion}
 use Rattle.work.specs.declared.panel.Panel.{Panel}
 use Rattle.work.specs.declared.work.Work.{Work}
-use Rattle.work.specs.declared.event.Event.TheVariants.{Tick}
-use Rattle.work.specs.Works.{limit, steps, todo, tick, happens, row, ticks}
-use Rattle.work.specs.Promises.{CanStop, GoesOn, EndsLine, Runs, ended, line}
+use Rattle.work.specs.Works.{limit, steps, todo, tick, row, ticks}
+use Rattle.work.specs.Promises.{CanStop, Runs, ended, line}
 use Rattle.work.proofs.Lists.{next_todo, none_left}
-use Rattle.work.proofs.Ticks.{none, at_end, going, ending, ends_or_goes}
+use Rattle.work.proofs.Ticks.{none, at_end, going, ending}
 use Rattle.work.proofs.Safety.{Safe, safe_row}
 use Rattle.work.proofs.Arrival.{ticks_add, panel_kept}
 

@@ -1,5 +1,5 @@
 -- The promise, of every state that a row of events leads to.
-use Rattle.std.proofs.Common.{◌≡◌, ℕ, ◌≤◌, List, refl}
+use Rattle.std.proofs.Common.{◌≡◌, ◌≤◌, List, refl}
 use Rattle.geometry.specs.declared.place.Place.{Place}
 use Rattle.program.specs.declared.target.Target.{Target}
 use Rattle.work.specs.declared.machine.Machine.{Machine}
@@ -7,7 +7,7 @@ use Rattle.work.specs.declared.work.Work.{Work}
 use Rattle.work.specs.declared.event.Event.{Event}
 use Rattle.work.specs.declared.event.Event.TheVariants.{Tick, Hold, Go, Knob}
 use Rattle.work.specs.Works.{happens, after}
-use Rattle.work.specs.Promises.{Fit, Promise, Promised}
+use Rattle.work.specs.Promises.{Promise, Promised}
 use Rattle.work.proofs.Ticks.{ticked}
 use Rattle.work.proofs.Safety.{Safe, safe_after, on_path}
 use Rattle.work.proofs.Rest.{stands_held}

@@ -1,5 +1,5 @@
 -- Held, it comes to a stand where its stopping distance says, and stays.
-use Rattle.std.proofs.Common.{◌≡◌, ℕ, zero, suc, ◌+◌, ◌-◌, ◌*◌, ◌/◌, ◌<◌, ◌≤◌, min, max, Bool, true, false, cond, ◌⊎◌, List, [], ◌∷◌, length, drop, sym, refl, ap, ◌∙◌, inl, inr, ⊎_elim, arith}
+use Rattle.std.proofs.Common.{◌≡◌, ℕ, ◌+◌, ◌-◌, ◌*◌, ◌/◌, ◌≤◌, min, Bool, true, cond, List, [], ◌∷◌, drop, sym, refl, ap, ◌∙◌, ⊎_elim, arith}
 use Rattle.geometry.specs.declared.place.Place.{Place}
 use Rattle.program.specs.declared.target.Target.{Target}
 use Rattle.line.specs.Lines.{long, on_line}
@@ -12,9 +12,9 @@ use Rattle.work.specs.declared.panel.Panel.{Panel}
 use Rattle.work.specs.declared.work.Work.{Work}
 use Rattle.work.specs.declared.event.Event.{Event}
 use Rattle.work.specs.declared.event.Event.TheVariants.{Tick, Hold, Go, Knob}
-use Rattle.work.specs.Works.{limit, steps, todo, tick, happens, row, stands, place}
+use Rattle.work.specs.Works.{limit, steps, todo, tick, happens, row, stands}
 use Rattle.work.specs.Promises.{CanStop, GoesOn, EndsLine, rest_place, quiet, Quiet, one, count, Stands}
-use Rattle.work.proofs.Ticks.{none, ends_or_goes, fitting}
+use Rattle.work.proofs.Ticks.{none, ends_or_goes}
 use Rattle.work.proofs.Safety.{Safe, safe_event}
 
 -- held, a tick slows as much as may be

@@ -1,8 +1,8 @@
 -- What every row of events keeps, and the promises about the present state and the next tick.
-use Rattle.std.proofs.Common.{◌≡◌, ℕ, zero, suc, ◌+◌, ◌-◌, ◌*◌, ◌<◌, ◌≤◌, max, ◌⊎◌, List, [], ◌∷◌, length, drop, sym, refl, ap, ◌∙◌, inl, inr, ⊎_elim, arith}
+use Rattle.std.proofs.Common.{◌≡◌, ℕ, ◌+◌, ◌<◌, ◌≤◌, List, [], ◌∷◌, length, drop, sym, refl, ap, ◌∙◌, ⊎_elim, arith}
 use Rattle.geometry.specs.declared.place.Place.{Place}
 use Rattle.program.specs.declared.target.Target.{Target}
-use Rattle.line.specs.Lines.{long, on_line}
+use Rattle.line.specs.Lines.{long}
 use Rattle.line.proofs.Walk.{nearest_x, nearest_y}
 use Rattle.speed.specs.Speeds.{stopping}
 use Rattle.speed.proofs.Stopping.{slow}
@@ -12,9 +12,9 @@ use Rattle.work.specs.declared.panel.Panel.{Panel}
 use Rattle.work.specs.declared.work.Work.{Work}
 use Rattle.work.specs.declared.event.Event.{Event}
 use Rattle.work.specs.declared.event.Event.TheVariants.{Tick, Hold, Go, Knob}
-use Rattle.work.specs.Works.{limit, steps, todo, tick, happens, row, begun, after, stands, place}
-use Rattle.work.specs.Promises.{start_of, OnLine, Stood, OnPath, CanStop, GoesOn, EndsLine}
-use Rattle.work.proofs.Lists.{next_todo, some_left, next_start}
+use Rattle.work.specs.Works.{limit, steps, todo, tick, happens, row, begun, after, stands}
+use Rattle.work.specs.Promises.{start_of, Stood, OnPath, CanStop, GoesOn, EndsLine}
+use Rattle.work.proofs.Lists.{some_left, next_start}
 use Rattle.work.proofs.Ticks.{none, ends_or_goes, fitting}
 
 pub record Safe (m : Machine) (p : Place) (ts : List Target) (w : Motion) : Type 0 where

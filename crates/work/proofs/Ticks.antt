@@ -1,22 +1,20 @@
 -- One tick: the only file that opens what a tick does.
-use Rattle.std.proofs.Common.{◌≡◌, ℕ, zero, suc, ◌+◌, ◌-◌, ◌*◌, ◌<◌, ◌≤◌, max, Bool, true, false, cond, leb, ◌⊎◌, List, [], ◌∷◌, length, drop, ℤ, pos, ◌-ℤ◌, nat_abs, sym, refl, ap, ◌∙◌, inl, inr, ⊎_elim, arith, eq-eqb, ne_eqb, le-leb}
+use Rattle.std.proofs.Common.{◌≡◌, ℕ, suc, ◌+◌, ◌-◌, ◌<◌, ◌≤◌, ◌⊎◌, List, [], ◌∷◌, sym, refl, ap, ◌∙◌, inl, inr, ⊎_elim, arith, eq-eqb, ne_eqb, le-leb}
 use borrow.Author.Tests.{lt-leb}
 use Rattle.std.proofs.lemmas.Int.{ints}
 use Rattle.std.proofs.lemmas.Bool.{cases_lt}
-use Rattle.geometry.specs.declared.place.Place.{Place}
 use Rattle.program.specs.declared.target.Target.{Target}
 use Rattle.line.specs.Lines.{long, on_line}
 use Rattle.line.proofs.Walk.{starts, ends, steps as walks}
-use Rattle.speed.specs.Speeds.{stopping, next_speed}
+use Rattle.speed.specs.Speeds.{stopping}
 use Rattle.speed.specs.Laws.{Next}
-use Rattle.speed.proofs.Stopping.{slow, slows}
+use Rattle.speed.proofs.Stopping.{slows}
 use Rattle.speed.proofs.Fastest.{next}
 use Rattle.work.specs.declared.machine.Machine.{Machine}
 use Rattle.work.specs.declared.motion.Motion.{Motion}
 use Rattle.work.specs.declared.panel.Panel.{Panel}
-use Rattle.work.specs.Works.{limit, steps, arrive, advance, todo, toward, tick, stands, after_tick, place}
-use Rattle.work.specs.Promises.{CanStop, made, cap_now, GoesOn, EndsLine, Moved, Ticked}
-use Rattle.work.proofs.Lists.{next_todo}
+use Rattle.work.specs.Works.{limit, steps, todo, toward, tick, stands, after_tick, place}
+use Rattle.work.specs.Promises.{CanStop, GoesOn, EndsLine, Moved, Ticked}
 
 -- where a tick leads: on along its line, or to its end
 abbrev pub gone_on : Motion → (n : ℕ) → Motion

@@ -11,7 +11,7 @@
 --   to_go               how many ticks suffice to come to the end
 --   Runs                rows of speeds that keep the limits along the lines still to go, one line after the other
 --   Promise             all that is promised of a state; Promised says it of every row of events
-use Rattle.std.specs.Prelude.{◌≡◌, ℕ, zero, suc, ◌+◌, ◌-◌, ◌*◌, ◌<◌, ◌≤◌, max, Bool, true, false, ◌⊎◌, List, [], ◌∷◌, length, ◌-ℤ◌, ◌≢◌, unsigned_abs}
+use Rattle.std.specs.Prelude.{◌≡◌, ℕ, zero, suc, ◌+◌, ◌-◌, ◌*◌, ◌<◌, ◌≤◌, max, ◌⊎◌, List, [], ◌∷◌, length, ◌-ℤ◌, ◌≢◌, unsigned_abs}
 use Rattle.geometry.specs.declared.place.Place.{Place}
 use Rattle.program.specs.declared.target.Target.{Target}
 use Rattle.line.specs.Lines.{long, on_line}

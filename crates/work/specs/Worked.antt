@@ -2,8 +2,7 @@
 --   Seen       where it is after a tick, and how fast
 --   seen       what is seen after each tick of a row of events, the earliest first
 --   Worked     the table
-use Rattle.std.specs.Prelude.{◌≡◌, ℕ, zero, suc, List, [], ◌∷◌, map, ℤ, pos, negsuc}
-use Rattle.geometry.specs.declared.place.Place.{Place}
+use Rattle.std.specs.Prelude.{◌≡◌, ℕ, List, [], ◌∷◌, map, ℤ, pos, negsuc}
 use Rattle.program.specs.declared.target.Target.{Target}
 use Rattle.speed.specs.Speeds.{stopping}
 use Rattle.work.specs.declared.machine.Machine.{Machine}

@@ -17,7 +17,7 @@
 --   stands w xs          where it is, with the targets xs still to go
 --   after_tick w b t     where it is after a tick toward t that began with b targets behind
 --   place ts w           where it is along the targets ts
-use Rattle.std.specs.Prelude.{ℕ, zero, suc, ◌+◌, ◌-◌, ◌*◌, ◌/◌, min, Bool, true, false, cond, List, [], ◌∷◌, drop, ◌==◌, nat_le}
+use Rattle.std.specs.Prelude.{ℕ, zero, suc, ◌+◌, ◌-◌, ◌*◌, ◌/◌, min, true, false, cond, List, [], ◌∷◌, drop, ◌==◌, nat_le}
 use Rattle.geometry.specs.declared.place.Place.{Place}
 use Rattle.program.specs.declared.target.Target.{Target}
 use Rattle.line.specs.Lines.{long, on_line}

@@ -1,6 +1,5 @@
-use Rattle.std.proofs.Common.{◌≡◌, ℕ, suc, ◌-◌, ◌<◌, ◌≤◌, List, ◌++◌, length, vec_items, sym, refl, ap, ◌∙◌, subst, inl, inr, arith}
+use Rattle.std.proofs.Common.{◌≡◌, suc, ◌-◌, vec_items, sym, refl, ◌∙◌, inl, inr, arith}
 use Rattle.std.proofs.lemmas.Bool.{cases_lt}
-use Rattle.player.specs.Plays.{ticked}
 use Rattle.player.proofs.Ticking.{none, another, same_lines, left_over_again, left_over_none, left_over_full}
 use Rattle.player.proofs.run.Goals as goal
 

@@ -1,7 +1,7 @@
 use Rattle.std.proofs.Common.{ℕ, ◌+◌, ◌-◌, ◌/◌, ◌<◌, ◌≤◌, arith}
 use borrow.Author.Tests.{true-leb, false-leb}
 use Rattle.speed.specs.Speeds.{stopping}
-use Rattle.speed.proofs.Fastest.{at_most, best, cut}
+use Rattle.speed.proofs.Fastest.{best, cut}
 use Rattle.speed.proofs.fastest_between.Goals as goal
 
 pub loop-above-preserved-then-can_stop : goal.loop-above-preserved-then-can_stop

@@ -1,4 +1,4 @@
-use Rattle.std.proofs.Common.{◌≡◌, ℕ, suc, ◌<◌, Bool, true, false, ◌&&◌, List, length, get_or, drop, sym, refl, ap, ◌∙◌, add-one, drop_of_length-le, drop-cons}
+use Rattle.std.proofs.Common.{◌≡◌, ℕ, suc, ◌<◌, Bool, true, false, ◌&&◌, List, length, get_or, drop, ap, ◌∙◌, add-one, drop_of_length-le, drop-cons}
 use Rattle.geometry.specs.Places.{within}
 use Rattle.program.specs.declared.target.Target.{Target}
 use Rattle.control.specs.Controls.{near}

@@ -1,4 +1,4 @@
-use Rattle.std.proofs.Common.{◌≡◌, length, sym, ap, ◌∙◌}
+use Rattle.std.proofs.Common.{length, sym, ap, ◌∙◌}
 use Rattle.entry.specs.Entries.{InRange, targets_in}
 use Rattle.entry.proofs.Checks.{passed, seven}
 use Rattle.entry.proofs.Ranges.{after_fits}

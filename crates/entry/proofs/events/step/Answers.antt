@@ -1,4 +1,4 @@
-use Rattle.std.proofs.Common.{◌≡◌, ◌∙◌}
+use Rattle.std.proofs.Common.{◌∙◌}
 use Rattle.entry.specs.Entries.{targets_in}
 use Rattle.control.proofs.Bounds.{stands_next, happens_next}
 use Rattle.entry.proofs.Ranges.{first_near, ready_next, next_near, before_near, after_near}

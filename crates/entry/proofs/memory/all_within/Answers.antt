@@ -1,4 +1,4 @@
-use Rattle.std.proofs.Common.{◌≡◌, ℕ, suc, ◌<◌, ◌≤◌, Bool, true, false, ◌&&◌, leb, List, length, drop, ℤ, pos, nat_abs, sym, refl, ap, ◌∙◌, add-one, arith, drop_of_length-le, drop-cons, w64, SFits, rules}
+use Rattle.std.proofs.Common.{◌≡◌, ℕ, suc, ◌<◌, Bool, true, false, ◌&&◌, leb, List, length, drop, ℤ, pos, nat_abs, ap, ◌∙◌, add-one, arith, drop_of_length-le, drop-cons, w64, SFits, rules}
 use borrow.Author.Tests.{le-true, lt-false}
 use Rattle.std.proofs.lemmas.Int.{to_z-of_z}
 use Rattle.entry.specs.Entries.{all_within, nth}

@@ -1,5 +1,4 @@
-use Rattle.std.proofs.Common.{◌≡◌, List, vec_items, sym, ap, ◌∙◌, inl, inr}
-use Rattle.program.specs.declared.target.Target.{Target}
+use Rattle.std.proofs.Common.{vec_items, sym, ap, ◌∙◌, inr}
 use Rattle.control.specs.Controls.{load_of}
 use Rattle.loader.proofs.controls.load_text.Goals as goal
 

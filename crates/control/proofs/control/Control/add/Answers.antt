@@ -1,4 +1,4 @@
-use Rattle.std.proofs.Common.{◌≡◌, sym, refl}
+use Rattle.std.proofs.Common.{sym, refl}
 use Rattle.control.proofs.States.{pushed, pushed_promise}
 use Rattle.control.proofs.control.Control.add.Goals as goal
 

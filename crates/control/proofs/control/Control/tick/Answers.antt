@@ -1,10 +1,8 @@
-use Rattle.std.proofs.Common.{◌≡◌, ◌<◌, ◌≤◌, length, vec_items, sym, refl, subst, arith}
+use Rattle.std.proofs.Common.{◌<◌, ◌≤◌, length, vec_items, sym, refl, subst, arith}
 use Rattle.geometry.specs.declared.place.Place.{Place}
-use Rattle.pulses.specs.Motors.{between, pulses}
 use Rattle.pulses.proofs.Follows.{still}
-use Rattle.work.specs.Works.{happens, place}
+use Rattle.work.specs.Works.{place}
 use Rattle.work.specs.declared.event.Event.TheVariants.{Tick}
-use Rattle.work.specs.declared.work.Work.{Work}
 use Rattle.control.specs.Controls.{Few}
 use Rattle.control.proofs.States.{slow_toward, ticks, near_toward, lands_at, idles, ghosts_at, happened, place_near, lands_near, gives, few}
 use Rattle.control.proofs.control.Control.tick.Goals as goal
