@@ -10,5 +10,5 @@ fn main() {
     }
     println!("cargo:rustc-link-search=native={library}");
     println!("cargo:rustc-link-search=native={kit}");
-    println!("cargo:rustc-link-lib=static=rattle_c");
+    println!("cargo:rustc-link-lib=static=libc_c");
 }

@@ -9,11 +9,10 @@ quietly() {
   rm -f "$log"
 }
 
-quietly rt check play targets
-quietly rt staticlib ffi
-quietly rt staticlib ffi_run
+quietly tools/build all
 export MILL_STATICLIB=$PWD/target/staticlib
-RATTLE_LIB=$(dirname "$(dirname "$(rt doc)")")/lib
+# The parts of the toolchain's library that are written in C.
+RATTLE_LIB=$(dirname "$(rt doc)")/c
 export RATTLE_LIB
 quietly cargo test --release --offline --manifest-path checks/Cargo.toml
 quietly cargo build --release --offline --manifest-path checks/Cargo.toml

@@ -18,8 +18,8 @@ MARKS = r"(?:(?:pattern|unfoldable|abbrev|pub)\s+)*"
 SIGNATURE = re.compile(r"^\s*" + MARKS + r"([A-Za-z_][\w'-]*) (?:\{[^}]*\} )?:(?!:)(?P<rest>.*)$")
 FAMILY = re.compile(r"^\s*" + MARKS + r"(?:record|data) ([A-Za-z_][\w'-]*)")
 IMPORT = re.compile(r"^\s*(?:pub )?(?:ghost )?use ([^{;]*?)\.?\{([^}]*)\}", re.M)
-# Names that are words of the language now, or have another style.
-TAKEN = {"first_of": "first_failing", "ok-okOr": "ok_ok_or"}
+# Names that are words of the language now, or that need more than another style: `quiet` is a type, and `Quiet` is another.
+TAKEN = {"first_of": "first_failing", "ok-okOr": "ok_ok_or", "quiet": "IsQuiet", "digitValue": "value_of_digit"}
 ALIAS = re.compile(r" as ([a-z]\w*-[\w-]*)(?=[,}])")
 FUNCTION = re.compile(r"\bfn (\w+)")
 
@@ -50,8 +50,6 @@ def declared(text):
 
 
 def respelled(name, is_type):
-    if name in TAKEN:
-        return TAKEN[name]
     if is_type and name[0].isupper():
         return "".join(w[:1].upper() + w[1:] for w in re.split(r"[-_]", name))
     return name.replace("-", "_")
@@ -98,7 +96,7 @@ def main(argv):
         for name in ALIAS.findall(text):
             kinds.setdefault(name, False)
     renamed = {n: respelled(n, t) for n, t in kinds.items()}
-    renamed = {n: r for n, r in renamed.items() if n != r}
+    renamed = {n: r for n, r in renamed.items() if n != r} | TAKEN
     functions = {n for p in files(root, ".rt") for n in FUNCTION.findall(read(p))}
     if argv == ["--list"]:
         for n in sorted(renamed):
@@ -107,7 +105,7 @@ def main(argv):
     writes, clashes = {}, []
     for p in files(root, ".antt", ".rt", ".edit"):
         text = read(p)
-        keep = imported(text)
+        keep = imported(text) - set(TAKEN)
         made = "/proofs/" in p and p.endswith(("Answers.antt", "Invariants.antt"))
         turn = in_source(text, renamed, keep) if p.endswith(".rt") else changed(text, renamed, keep, made)
         words = set(TOKEN.findall(text))

@@ -1,5 +1,5 @@
 // A program run from the beginning for so many ticks, for programs in C and Rust: a loaded control and nothing else, so
-// that this library is also what the control's speed is measured by. It knows nothing of texts.
+// that its library, which `ffi_run_c` exports, is also what the control's speed is measured by. It knows nothing of texts.
 
 #![tactic(auto)]
 

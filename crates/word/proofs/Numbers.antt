@@ -2,7 +2,7 @@
 use Rattle.std.proofs.Common.{◌≡◌, ℕ, ◌-◌, ◌^◌, ◌<◌, ◌≤◌, min, true, List, [], ◌∷◌, length, get_or, take, drop, Some, None, inl, inr, arith}
 use Rattle.std.specs.Str.Parse.{digits_value, AllDigits}
 use Rattle.std.specs.Int.{IsInRange}
-use Rattle.std.specs.Char.{digit_value as digitValue}
+use Rattle.std.specs.Char.{digit_value as value_of_digit}
 use Rattle.std.specs.Str.{all_ascii_digits}
 use Rattle.std.proofs.lemmas.List.{take_all}
 use Rattle.std.proofs.lemmas.Str.Parse.{IsNumeralModel, numerals_by_value, tells_all_ascii_digits, digit_at}
@@ -14,7 +14,7 @@ use Rattle.word.specs.Numbers.{magnitude, mapped, number_of, down}
 own : IsNumeralModel (λ ds. all_ascii_digits ds ≡ true) (digits_value 10)
 own = numerals_by_value _ tells_all_ascii_digits
 
-pub digit_value : (b : ℕ) → (48 ≤ b) × (b ≤ 57) → (digitValue b ≡ b - 48) × (digitValue b < 10)
+pub digit_value : (b : ℕ) → (48 ≤ b) × (b ≤ 57) → (value_of_digit b ≡ b - 48) × (value_of_digit b < 10)
 digit_value b h = grind (arith, nat_tests)
 
 pub magnitude_all : (ds : List ℕ) → 0 < length ds → AllDigits 10 ds → magnitude ds ≡ Some (min (digits_value 10 ds) (2 ^ 64 - 1))

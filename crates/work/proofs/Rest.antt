@@ -13,7 +13,7 @@ use Rattle.work.specs.declared.work.Work.{Work}
 use Rattle.work.specs.declared.event.Event.{Event}
 use Rattle.work.specs.declared.event.Event.TheVariants.{Tick, Hold, Go, Knob}
 use Rattle.work.specs.Works.{limit, steps, todo, tick, happens, row, stands}
-use Rattle.work.specs.Promises.{CanStop, GoesOn, EndsLine, rest_place, quiet, Quiet, one, count, Stands}
+use Rattle.work.specs.Promises.{CanStop, GoesOn, EndsLine, rest_place, IsQuiet, Quiet, one, count, Stands}
 use Rattle.work.proofs.Ticks.{none, ends_or_goes}
 use Rattle.work.proofs.Safety.{Safe, safe_event}
 
@@ -75,7 +75,7 @@ module _ (m : Machine) (p : Place) (ts : List Target) (fit : 1 ≤ m.change) whe
     same : rest_place m.change w.motion (todo ts w.motion) ≡ r
     less : w.motion.speed ≤ v - k * m.change
 
-  holding_event : (r : Place) (v k : ℕ) (x : Event) (w : Work) → quiet x → Holding r v k w → Holding r v (one x + k) (happens m ts x w)
+  holding_event : (r : Place) (v k : ℕ) (x : Event) (w : Work) → IsQuiet x → Holding r v k w → Holding r v (one x + k) (happens m ts x w)
   holding_event r v k Tick w z h =
       let s = slowed_tick w.panel w.motion h.held h.safe.stop in
       record { held = h.held; safe = safe_event m p ts fit Tick w h.safe; same = s.same ∙ h.same; less = omega (arith, s.less, h.less) }

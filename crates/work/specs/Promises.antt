@@ -97,15 +97,15 @@ unfoldable pub rest_place : (a : ℕ) → Motion → List Target → Place
 rest_place a w [] = w.from
 rest_place a w (t ∷ ts) = on_line w.from t.to (w.done + stopping a w.speed)
 
-abbrev pub quiet : Event → Type 0
-quiet Tick = Unit {0}
-quiet Hold = Unit {0}
-quiet Go = ⊥
-quiet (Knob n) = Unit {0}
+abbrev pub IsQuiet : Event → Type 0
+IsQuiet Tick = Unit {0}
+IsQuiet Hold = Unit {0}
+IsQuiet Go = ⊥
+IsQuiet (Knob n) = Unit {0}
 
 unfoldable pub Quiet : List Event → Type 0
 Quiet [] = Unit {0}
-Quiet (e ∷ es) = quiet e × Quiet es
+Quiet (e ∷ es) = IsQuiet e × Quiet es
 
 abbrev pub one : Event → ℕ
 one Tick = 1
