@@ -4,6 +4,7 @@ use mathlib.Core.Logic.{∥∥₁_elim, ∥∥₁_map}
 use native.Mathlib.Bridge.{le_prop}
 use lib.IntN.{ℤ_set}
 use lib.Seq.{drop-append-le}
+use Rattle.refusal.specs.declared.MachinePart.TheVariants.{Change, Top}
 use Rattle.refusal.specs.declared.Refusal.TheVariants.{Machine as Unfit}
 use Rattle.geometry.proofs.Acts.{same_place}
 use Rattle.geometry.specs.declared.place.Place.{Place}
@@ -97,7 +98,7 @@ reached_first m ts w e = ∣ record { events = []; is = e } ∣₁
 pub fit_of : (a t : ℕ) (m : Machine) → Ok m ≡ machine_of a t → fit m ≡ true
 fit_of a t m e = by (in_range a) (in_range t) refl refl e
   where
-    by : (x y : Bool) → in_range a ≡ x → in_range t ≡ y → Ok m ≡ cond x (cond y (Ok (record { change = a; top = t })) (Err (Unfit 1))) (Err (Unfit 0)) → fit m ≡ true
+    by : (x y : Bool) → in_range a ≡ x → in_range t ≡ y → Ok m ≡ cond x (cond y (Ok (record { change = a; top = t })) (Err (Unfit Top))) (Err (Unfit Change)) → fit m ≡ true
     by true true i j e = let k : m ≡ record { change = a; top = t } = cc in rw (k, i, j)
     by true false i j e = let z : ◌≡◌ {A = ℕ} 0 1 = cc in absurd (omega arith)
     by false y i j e = let z : ◌≡◌ {A = ℕ} 0 1 = cc in absurd (omega arith)

@@ -21,21 +21,23 @@ use Rattle.work.specs.declared.event.Event.{Event}
 use Rattle.work.specs.Works.{todo, happens, after}
 use Rattle.work.specs.Promises.{Promise, cap_now}
 use Rattle.pulses.specs.declared.Pulses.{Pulses}
-use Rattle.control.specs.declared.fault.AddError.{AddError}
-use Rattle.control.specs.declared.fault.AddError.TheVariants.{Refused, Memory}
+use Rattle.refusal.specs.declared.LentPart.TheVariants.{Place as far}
+use Rattle.refusal.specs.declared.MachinePart.TheVariants.{Change, Top}
+use Rattle.refusal.specs.declared.failed.Failed.{Failed}
+use Rattle.refusal.specs.declared.failed.Failed.TheVariants.{Refused, Memory}
 
 abbrev pub in_range : ℕ → Bool
 in_range n = nat_le 1 n && nat_le n 1000000
 
 abbrev pub machine_of : (a t : ℕ) → Result Machine Refusal
-machine_of a t = cond (in_range a) (cond (in_range t) (Ok (record { change = a; top = t })) (Err (Unfit 1))) (Err (Unfit 0))
+machine_of a t = cond (in_range a) (cond (in_range t) (Ok (record { change = a; top = t })) (Err (Unfit Top))) (Err (Unfit Change))
 
 unfoldable pub near : List Target → Bool
 near [] = true
 near (t ∷ ts) = within 1000000000 t.to && near ts
 
 abbrev pub loaded : Result Machine Refusal → List Target → Result Machine Refusal
-loaded (Ok m) ts = cond (near ts) (Ok m) (Err (Lent 1))
+loaded (Ok m) ts = cond (near ts) (Ok m) (Err (Lent far))
 loaded (Err e) ts = Err e
 
 abbrev pub load_of : (a t : ℕ) → List Target → Result Machine Refusal
@@ -68,7 +70,7 @@ pub record Few (m : Machine) (ts : List Target) (w : Work) (d : Pulses) : Type 0
   pub along : unsigned_abs d.y ≤ max (cap_now m w.panel (todo ts w.motion)) w.motion.speed
 
 -- a target put behind the others: taken, refused because it lies too far, or, near enough, not for want of memory; then nothing changes
-abbrev pub Added : Target → Result (Unit {0}) AddError → Machine → List Target → Work → Machine → List Target → Work → Type 0
+abbrev pub Added : Target → Result (Unit {0}) (Failed Refusal) → Machine → List Target → Work → Machine → List Target → Work → Type 0
 Added t (Ok u) m ts w n us v = (within 1000000000 t.to ≡ true) × (n ≡ m) × (us ≡ ts ++ t ∷ []) × (v ≡ w) × ∥ Promise m origin us v ∥₁
-Added t (Err (Refused e)) m ts w n us v = (within 1000000000 t.to ≡ false) × (e ≡ Lent 1) × (n ≡ m) × (us ≡ ts) × (v ≡ w)
+Added t (Err (Refused e)) m ts w n us v = (within 1000000000 t.to ≡ false) × (e ≡ Lent far) × (n ≡ m) × (us ≡ ts) × (v ≡ w)
 Added t (Err Memory) m ts w n us v = (within 1000000000 t.to ≡ true) × (n ≡ m) × (us ≡ ts) × (v ≡ w)

@@ -6,12 +6,11 @@ ghost use Rattle.pulses.specs.Motors.{pulses};
 ghost use Rattle.work.specs.Works.{begun, place};
 ghost use Rattle.work.specs.declared.event.Event.TheVariants.{Tick, Hold, Go, Knob};
 
-use crate::fault::AddError;
 use crate::machines::machine;
 use geometry::Place;
 use program::Target;
 use pulses::Pulses;
-use refusal::Refusal;
+use refusal::{Failed, LentPart, Refusal};
 use work::{Machine, Work};
 
 #[derive(Drop)]
@@ -34,7 +33,7 @@ impl Control {
     {
         let machine = machine(change, top)?;
         if !all_near(&targets) {
-            return Err(Refusal::Lent(1));
+            return Err(Refusal::Lent(LentPart::Place));
         }
         Ok(Control {
             machine,
@@ -85,12 +84,12 @@ impl Control {
     }
 
     // One target more, behind the others.
-    pub fn add(&mut self, target: Target) -> Result<(), AddError>
+    pub fn add(&mut self, target: Target) -> Result<(), Failed<Refusal>>
         ensures { Added target result self.old.machine self.old.targets.items self.old.work self.new.machine self.new.targets.items self.new.work }
     {
         let near = target.to.is_within(Place::REACH);
         if !near {
-            return Err(AddError::Refused(Refusal::Lent(1)));
+            return Err(Refusal::Lent(LentPart::Place).into());
         }
         self.targets.push(target)?;
         Ok(())

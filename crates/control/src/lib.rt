@@ -8,9 +8,7 @@
 #![tactic(auto)]
 
 mod control;
-mod fault;
 mod machines;
 
 pub use control::Control;
-pub use fault::AddError;
 pub use machines::machine;

@@ -2,7 +2,7 @@
 ghost use Rattle.std.specs.Prelude.{◌≡◌};
 ghost use Rattle.control.specs.Controls.{machine_of};
 
-use refusal::Refusal;
+use refusal::{MachinePart, Refusal};
 use work::Machine;
 
 const MOST: u64 = 1_000_000;
@@ -12,10 +12,10 @@ pub fn machine(change: u64, top: u64) -> Result<Machine, Refusal>
     ensures { result ≡ machine_of change top }
 {
     if change < 1 || MOST < change {
-        return Err(Refusal::Machine(0));
+        return Err(Refusal::Machine(MachinePart::Change));
     }
     if top < 1 || MOST < top {
-        return Err(Refusal::Machine(1));
+        return Err(Refusal::Machine(MachinePart::Top));
     }
     Ok(Machine { change, top })
 }

@@ -5,7 +5,7 @@ use Rattle.refusal.specs.declared.Refusal.{Refusal}
 use Rattle.geometry.specs.Places.{within}
 use Rattle.control.specs.Controls.{in_range, near}
 use Rattle.entry.specs.Entries.{nth, targets_in, work_in, all_within, sound, refusal_of, InRange}
-use Rattle.program.specs.Nodes.{size}
+use Rattle.count.specs.Counts.{size}
 
 passed_one : (b : Bool) (x : Option Refusal) (r : Refusal) → None ≡ cond b x (Some r) → (b ≡ true) × (None ≡ x)
 passed_one true x r e = (refl, e)

@@ -11,9 +11,12 @@
 --   DoneSays        what the entry answers and what memory holds then
 use Rattle.std.specs.Prelude.{◌≡◌, ℕ, ◌%◌, ◌≤◌, Bool, true, cond, ◌&&◌, List, [], ◌∷◌, length, ℤ, pos, Some, None, Option, ◌==◌, nat_le, slice_index_or, unsigned_abs}
 use Rattle.refusal.specs.declared.Refusal.{Refusal}
+use Rattle.refusal.specs.declared.EventPart.TheVariants.{Kind, Number}
+use Rattle.refusal.specs.declared.LentPart.TheVariants.{Targets, Place as far, Memory}
+use Rattle.refusal.specs.declared.MachinePart.TheVariants.{Change, Top}
 use Rattle.refusal.specs.declared.Refusal.TheVariants.{Machine as Unfit, Lent, Event as Unknown}
 use Rattle.geometry.specs.Places.{within, Within}
-use Rattle.program.specs.Nodes.{size}
+use Rattle.count.specs.Counts.{size}
 use Rattle.program.specs.declared.target.Target.{Target}
 use Rattle.work.specs.declared.machine.Machine.{Machine}
 use Rattle.work.specs.declared.work.Work.{Work}
@@ -81,13 +84,13 @@ first (c ∷ cs) = cond c.passes (first cs) (Some c.«else»)
 
 abbrev pub checks : (a t : ℕ) → (targets memory : List ℤ) → (kind number : ℕ) → List Check
 checks a t targets memory kind number =
-    record { passes = in_range a; «else» = Unfit 0 }
-    ∷ (record { passes = in_range t; «else» = Unfit 1 }
-    ∷ (record { passes = (length targets % 3 == 0); «else» = Lent 0 }
-    ∷ (record { passes = near (targets_in targets); «else» = Lent 1 }
-    ∷ (record { passes = sound memory; «else» = Lent 2 }
-    ∷ (record { passes = nat_le kind 3; «else» = Unknown 0 }
-    ∷ (record { passes = nat_le number 1000; «else» = Unknown 1 } ∷ []))))))
+    record { passes = in_range a; «else» = Unfit Change }
+    ∷ (record { passes = in_range t; «else» = Unfit Top }
+    ∷ (record { passes = (length targets % 3 == 0); «else» = Lent Targets }
+    ∷ (record { passes = near (targets_in targets); «else» = Lent far }
+    ∷ (record { passes = sound memory; «else» = Lent Memory }
+    ∷ (record { passes = nat_le kind 3; «else» = Unknown Kind }
+    ∷ (record { passes = nat_le number 1000; «else» = Unknown Number } ∷ []))))))
 
 abbrev pub refusal_of : (a t : ℕ) → (targets memory : List ℤ) → (kind number : ℕ) → Option Refusal
 refusal_of a t targets memory kind number = first (checks a t targets memory kind number)

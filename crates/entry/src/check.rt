@@ -5,7 +5,7 @@ ghost use Rattle.entry.specs.Entries.{refusal_of};
 use crate::lent::targets_near;
 use crate::memory::is_sound;
 use control::machine;
-use refusal::Refusal;
+use refusal::{EventPart, LentPart, Refusal};
 
 // The first check that fails, if any does.
 pub fn check(
@@ -22,19 +22,19 @@ pub fn check(
         return Some(refusal);
     }
     if targets.len() % 3 != 0 {
-        return Some(Refusal::Lent(0));
+        return Some(Refusal::Lent(LentPart::Targets));
     }
     if !targets_near(targets) {
-        return Some(Refusal::Lent(1));
+        return Some(Refusal::Lent(LentPart::Place));
     }
     if !is_sound(memory) {
-        return Some(Refusal::Lent(2));
+        return Some(Refusal::Lent(LentPart::Memory));
     }
     if kind > 3 {
-        return Some(Refusal::Event(0));
+        return Some(Refusal::Event(EventPart::Kind));
     }
     if number > 1000 {
-        return Some(Refusal::Event(1));
+        return Some(Refusal::Event(EventPart::Number));
     }
     None
 }

@@ -2,17 +2,10 @@
 ghost use Rattle.std.specs.Prelude.{◌≡◌, drop};
 ghost use Rattle.control.specs.Controls.{near, head_of};
 ghost use Rattle.entry.specs.Entries.{targets_in};
-ghost use Rattle.program.specs.Nodes.{size};
 
+use count::count;
 use geometry::Place;
 use program::Target;
-
-// A number without a sign, 0 for one below 0.
-pub fn size(n: i64) -> u64
-    ensures { result ≡ size n }
-{
-    if n < 0 { 0 } else { n.unsigned_abs() }
-}
 
 // The target at a place of the list, if there is one.
 pub fn target_at(targets: &[i64], i: usize) -> Option<Target>
@@ -27,7 +20,7 @@ pub fn target_at(targets: &[i64], i: usize) -> Option<Target>
             x: targets[at],
             y: targets[at + 1],
         },
-        fast: size(targets[at + 2]),
+        fast: count(targets[at + 2]),
     })
 }
 

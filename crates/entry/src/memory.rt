@@ -2,7 +2,7 @@
 ghost use Rattle.std.specs.Prelude.{◌≡◌, ℕ, ◌^◌, ◌<◌, ◌≤◌, true, length};
 ghost use Rattle.entry.specs.Entries.{all_within, sound, work_in, memory_of};
 
-use crate::lent::size;
+use count::count;
 use geometry::Place;
 use work::{Motion, Panel, Work};
 
@@ -19,7 +19,7 @@ pub fn is_sound(memory: &[i64]) -> bool
     if !all_within(memory, MOST) {
         return false;
     }
-    if size(memory[6]) > 100 {
+    if count(memory[6]) > 100 {
         return false;
     }
     Place {
@@ -48,17 +48,17 @@ pub fn work_in(memory: &[i64]) -> Work
 {
     Work {
         motion: Motion {
-            behind: size(memory[0]) as usize,
+            behind: count(memory[0]) as usize,
             from: Place {
                 x: memory[1],
                 y: memory[2],
             },
-            done: size(memory[3]),
-            speed: size(memory[4]),
+            done: count(memory[3]),
+            speed: count(memory[4]),
         },
         panel: Panel {
-            held: size(memory[5]) == 1,
-            percent: size(memory[6]) as u32,
+            held: count(memory[5]) == 1,
+            percent: count(memory[6]) as u32,
         },
     }
 }

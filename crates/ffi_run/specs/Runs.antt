@@ -5,10 +5,10 @@
 --   RunTold           the same as a code, the sum of the pulses and the place
 use Rattle.std.specs.Prelude.{◌≡◌, ℕ, ◌⊎◌, List, ℤ, Some, None, Ok, Err, Option, Result}
 use Rattle.refusal.specs.declared.Refusal.{Refusal}
+use Rattle.refusal.specs.declared.failed.Failed.{Failed}
+use Rattle.refusal.specs.declared.failed.Failed.TheVariants.{Refused, Memory}
 use Rattle.geometry.specs.declared.place.Place.{Place}
 use Rattle.program.specs.Answers.{refusal_of, else_by, said}
-use Rattle.program.specs.declared.entry.LoadError.{LoadError}
-use Rattle.program.specs.declared.entry.LoadError.TheVariants.{Refused, Memory}
 use Rattle.work.specs.declared.machine.Machine.{Machine}
 use Rattle.work.specs.Works as works
 use Rattle.control.specs.Controls.{load_of, origin}
@@ -25,7 +25,7 @@ abbrev pub end_of : (a t : ℕ) → List ℤ → (n : ℕ) → Place
 end_of a t xs n = works.place (said xs) (works.after (record { change = a; top = t }) (said xs) origin (works.ticks n)).motion
 
 -- memory may be wanting only where the program is not refused
-abbrev pub Ran : (a t : ℕ) → List ℤ → (most n : ℕ) → Result Place LoadError → Type 0
+abbrev pub Ran : (a t : ℕ) → List ℤ → (most n : ℕ) → Result Place (Failed Refusal) → Type 0
 Ran a t xs most n (Ok p) = (run_refusal a t xs most ≡ None) × (p ≡ end_of a t xs n)
 Ran a t xs most n (Err (Refused e)) = run_refusal a t xs most ≡ Some e
 Ran a t xs most n (Err Memory) = refusal_of xs most ≡ None

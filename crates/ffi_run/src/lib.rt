@@ -9,7 +9,8 @@ ghost use Rattle.work.specs.Works.{place, row, ticks};
 
 use control::Control;
 use geometry::Place;
-use program::{LoadError, load};
+use program::load;
+use refusal::{Failed, Refusal};
 use std::alloc::Global;
 
 // What a run returns where there is not enough memory for the targets.
@@ -33,11 +34,11 @@ pub fn mill_run(
             *moved = [end.x, end.y];
             0
         }
-        Err(LoadError::Refused(refusal)) => {
+        Err(Failed::Refused(refusal)) => {
             *at = [refusal.place()];
             refusal.number()
         }
-        Err(LoadError::Memory) => NO_MEMORY,
+        Err(Failed::Memory) => NO_MEMORY,
     }
 }
 
@@ -49,7 +50,7 @@ fn run(
     nodes: &[i64],
     most: u64,
     count: u64,
-) -> Result<Place, LoadError>
+) -> Result<Place, Failed<Refusal>>
     ensures { Ran change top nodes.now (min most (2 ^ 60)) count result }
 {
     let targets = load(heap, nodes, most)?;

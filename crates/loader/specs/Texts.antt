@@ -8,10 +8,10 @@ use Rattle.std.specs.Prelude.{◌≡◌, ℕ, ◌⊎◌, List, ℤ, Some, None, 
 use Rattle.std.specs.declared.alloc.Global.{Global}
 use Rattle.refusal.specs.declared.Refusal as refusal
 use Rattle.refusal.specs.declared.Refusal.TheVariants.{Text}
+use Rattle.refusal.specs.declared.failed.Failed.{Failed}
+use Rattle.refusal.specs.declared.failed.Failed.TheVariants as load
 use Rattle.program.specs.Answers.{refusal_of, said}
 use Rattle.program.specs.declared.target.Target.{Target}
-use Rattle.program.specs.declared.entry.LoadError.{LoadError}
-use Rattle.program.specs.declared.entry.LoadError.TheVariants as load
 use Rattle.work.specs.Works.{begun}
 use Rattle.control.specs.Controls.{load_of, origin}
 use Rattle.control.specs.declared.control.Control.{Control}
@@ -41,7 +41,7 @@ pub record LoadsWith (xs : List ℤ) (most a t : ℕ) (c : Control) : Type 0 whe
 pub record TurnsAway (xs : List ℤ) (most a t : ℕ) (e : refusal.Refusal) : Type 0 where
   pub first : (refusal_of xs most ≡ Some e) ⊎ ((refusal_of xs most ≡ None) × (load_of a t (said xs) ≡ Err e))
 
-abbrev pub LoadsNodes : List ℤ → (most a t : ℕ) → Result Control LoadError → Type 0
+abbrev pub LoadsNodes : List ℤ → (most a t : ℕ) → Result Control (Failed refusal.Refusal) → Type 0
 LoadsNodes xs most a t (Ok c) = LoadsWith xs most a t c
 LoadsNodes xs most a t (Err (load.Refused e)) = TurnsAway xs most a t e
 LoadsNodes xs most a t (Err load.Memory) = Unit {0}

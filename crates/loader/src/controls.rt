@@ -6,7 +6,8 @@ ghost use Rattle.text.specs.Reading.{read as read_text};
 use crate::failure::Failure;
 use crate::texts::targets;
 use control::Control;
-use program::{LoadError, load};
+use program::load;
+use refusal::{Failed, Refusal};
 use std::alloc::Global;
 
 // A control loaded with a program in numbers, where it says no more than `most` targets.
@@ -16,13 +17,13 @@ pub fn load_nodes(
     top: u64,
     nodes: &[i64],
     most: u64,
-) -> Result<Control, LoadError>
+) -> Result<Control, Failed<Refusal>>
     ensures { LoadsNodes nodes.now (min most (2 ^ 60)) change top result }
 {
     let targets = load(heap, nodes, most)?;
     match Control::load(change, top, targets) {
         Ok(control) => Ok(control),
-        Err(refusal) => Err(LoadError::Refused(refusal)),
+        Err(refusal) => Err(Failed::Refused(refusal)),
     }
 }
 

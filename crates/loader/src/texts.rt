@@ -4,7 +4,8 @@ ghost use Rattle.loader.specs.Texts.{Says};
 ghost use Rattle.text.specs.Reading.{read as read_text};
 
 use crate::failure::Failure;
-use program::{LoadError, Target, load};
+use program::{Target, load};
+use refusal::Failed;
 use std::alloc::Global;
 use text::{ReadError, read};
 
@@ -19,7 +20,7 @@ pub fn targets(heap: Global, text: &[u8], most: u64) -> Result<Vec<Target>, Fail
     };
     match load(heap, &nodes, most) {
         Ok(targets) => Ok(targets),
-        Err(LoadError::Refused(refusal)) => Err(Failure::Refused(refusal, nodes)),
-        Err(LoadError::Memory) => Err(Failure::Memory),
+        Err(Failed::Refused(refusal)) => Err(Failure::Refused(refusal, nodes)),
+        Err(Failed::Memory) => Err(Failure::Memory),
     }
 }

@@ -14,7 +14,8 @@ use Rattle.refusal.specs.declared.Refusal.TheVariants.{Room, Reach}
 use Rattle.program.proofs.Meanings.{framed_same, says_count}
 use Rattle.program.proofs.Naming.{staged}
 use Rattle.program.specs.Answers.{first_in, first_failing, names_below, reached, refusal_of, said, small, well_named, well_shaped}
-use Rattle.program.specs.Nodes.{size, number, nodes, node_in, whole}
+use Rattle.count.specs.Counts.{size}
+use Rattle.program.specs.Nodes.{number, nodes, node_in, whole}
 use Rattle.program.specs.Programs.{Program, Went, went, count}
 use Rattle.program.specs.Walks.{meant, went_in, Sound, Counts, Passed, Ready, Whole, Ran}
 use Rattle.program.specs.Rooms.{over}

@@ -11,7 +11,8 @@ use Rattle.program.proofs.Counting.{count_meant}
 use Rattle.program.proofs.Meanings.{in_none, in_count, in_nothing, in_to, in_by, in_next, in_times, in_at, in_turn, in_mirror, in_sub, again_length}
 use Rattle.program.proofs.Naming.{meant_step}
 use Rattle.program.specs.Answers.{names_below}
-use Rattle.program.specs.Nodes.{size, number, node_of, node_in, program}
+use Rattle.count.specs.Counts.{size}
+use Rattle.program.specs.Nodes.{number, node_of, node_in, program}
 use Rattle.program.specs.Programs.{Program, stay, going, followed, again, count}
 use Rattle.program.specs.Walks.{meant, counted, Sound, Ready, went_in}
 use Rattle.program.specs.declared.node.Node.{Node}

@@ -16,7 +16,8 @@ use Rattle.geometry.specs.Places.{within}
 use Rattle.refusal.specs.declared.Refusal.{Refusal}
 use Rattle.refusal.specs.declared.Refusal.TheVariants.{Shape, Number, Node, Room, Reach}
 use Rattle.program.specs.Programs.{went}
-use Rattle.program.specs.Nodes.{size, number, nodes, node_in, whole}
+use Rattle.count.specs.Counts.{size}
+use Rattle.program.specs.Nodes.{number, nodes, node_in, whole}
 use Rattle.program.specs.Rooms.{over, in_numbers}
 use Rattle.program.specs.declared.node.Node as node
 use Rattle.program.specs.declared.node.Node.TheVariants.{Nothing, To, By, Next, Times, At, Turn, Mirror, Sub}

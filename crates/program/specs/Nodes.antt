@@ -1,5 +1,4 @@
 -- A program in numbers: nodes of four numbers, each naming only earlier ones. Assumes nothing.
---   size z          z, or 0 if it is below 0
 --   number xs n j   the number j of the node n
 --   nodes xs        how many nodes the numbers make
 --   node_of k a b c the node of kind k with the numbers a b c; a kind above 8 is refused before it is looked at
@@ -7,14 +6,11 @@
 --   program f v     what the node v means, where f k is what the node k means
 --   programs xs n   what each of the first n nodes means; a node from n on means nothing
 --   whole xs        the program: the last node
-use Rattle.std.specs.Prelude.{ℕ, zero, suc, ◌+◌, ◌-◌, ◌*◌, ◌/◌, cond, List, length, ℤ, pos, negsuc, ◌==◌, nat_lt, slice_index_or}
+use Rattle.std.specs.Prelude.{ℕ, zero, suc, ◌+◌, ◌-◌, ◌*◌, ◌/◌, cond, List, length, ℤ, pos, ◌==◌, nat_lt, slice_index_or}
+use Rattle.count.specs.Counts.{size}
 use Rattle.program.specs.Programs.{Program, nothing, to, by, next, times, at, turn, mirror, sub}
 use Rattle.program.specs.declared.node.Node.{Node}
 use Rattle.program.specs.declared.node.Node.TheVariants.{Nothing, To, By, Next, Times, At, Turn, Mirror, Sub}
-
-abbrev pub size : ℤ → ℕ
-size (pos n) = n
-size (negsuc n) = 0
 
 abbrev pub number : List ℤ → ℕ → ℕ → ℤ
 number xs n j = slice_index_or xs (4 * n + j) (pos 0)

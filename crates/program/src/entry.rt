@@ -2,42 +2,18 @@
 ghost use Rattle.std.specs.Prelude.{◌≡◌, ◌/◌, ◌^◌, min, length};
 ghost use Rattle.program.specs.Answers.{answer, refusal_of, room_after, said};
 ghost use Rattle.program.specs.Loads.{Loaded};
-ghost use Rattle.program.specs.declared.entry.LoadError.TheVariants.{Memory, Refused as Turned};
 
 use super::check::{checked, run};
 use super::target::Target;
 use geometry::Place;
-use refusal::Refusal;
-use std::alloc::{AllocError, Global};
+use refusal::{Failed, Refusal};
+use std::alloc::Global;
 
 #[derive(Clone, Copy, PartialEq, Eq, Debug)]
 pub enum Said {
     // So many targets.
     Says(u64),
     Refused(Refusal),
-}
-
-#[derive(Clone, Copy, PartialEq, Eq, Debug)]
-pub enum LoadError {
-    Refused(Refusal),
-    // There is not enough memory for the targets.
-    Memory,
-}
-
-impl From<AllocError> for LoadError {
-    ghost from_gives = { λ _ r. r ≡ Memory };
-
-    fn from(_error: AllocError) -> LoadError {
-        LoadError::Memory
-    }
-}
-
-impl From<Refusal> for LoadError {
-    ghost from_gives = { λ e r. r ≡ Turned e };
-
-    fn from(refusal: Refusal) -> LoadError {
-        LoadError::Refused(refusal)
-    }
 }
 
 // More targets than any memory holds, and fewer than a count is cut to.
@@ -61,7 +37,7 @@ pub fn say(nodes: &[i64], room: &mut [i64]) -> Said
 }
 
 // The targets that a program says, where there are no more than `most`, or than 2^60, which no memory holds.
-pub fn load(heap: Global, nodes: &[i64], most: u64) -> Result<Vec<Target>, LoadError>
+pub fn load(heap: Global, nodes: &[i64], most: u64) -> Result<Vec<Target>, Failed<Refusal>>
     ensures { Loaded nodes.now (min most (2 ^ 60)) result }
 {
     let counts = checked(nodes, most.min(MOST_TARGETS))?;

@@ -13,6 +13,6 @@ mod state;
 mod target;
 mod walk;
 
-pub use entry::{LoadError, Said, load, say};
+pub use entry::{Said, load, say};
 pub use laws::frames_hold;
 pub use target::Target;

@@ -1,8 +1,10 @@
 // A node of a program, decoded from its four numbers. A node names others by their number.
 ghost use Rattle.std.specs.Prelude.{◌≡◌, ◌+◌, ◌*◌, ◌<◌, ◌≤◌, length};
-ghost use Rattle.program.specs.Nodes.{size, node_of, node_in};
+ghost use Rattle.count.specs.Counts.{size};
+ghost use Rattle.program.specs.Nodes.{node_of, node_in};
 ghost use Rattle.program.specs.Answers.{names_below, well_named};
 
+use count::count;
 use geometry::Place;
 
 #[derive(Clone, Copy)]
@@ -27,13 +29,6 @@ pub enum Node {
     Sub(usize),
 }
 
-// A kind, count, speed or name below 0 counts as 0.
-pub fn unsigned(z: i64) -> u64
-    ensures { result ≡ size z }
-{
-    if z < 0 { 0 } else { z as u64 }
-}
-
 impl Node {
     // The node of a kind with its three numbers. A kind above 8 is refused before anyone looks at what it gives.
     fn of(kind: u64, a: i64, b: i64, c: i64) -> Node
@@ -41,14 +36,14 @@ impl Node {
     {
         match kind {
             0 => Node::Nothing,
-            1 => Node::To(Place { x: a, y: b }, unsigned(c)),
-            2 => Node::By(Place { x: a, y: b }, unsigned(c)),
-            3 => Node::Next(unsigned(a) as usize, unsigned(b) as usize),
-            4 => Node::Times(unsigned(a), unsigned(b) as usize),
-            5 => Node::At(Place { x: a, y: b }, unsigned(c) as usize),
-            6 => Node::Turn(unsigned(a) as usize),
-            7 => Node::Mirror(unsigned(a) as usize),
-            _ => Node::Sub(unsigned(a) as usize),
+            1 => Node::To(Place { x: a, y: b }, count(c)),
+            2 => Node::By(Place { x: a, y: b }, count(c)),
+            3 => Node::Next(count(a) as usize, count(b) as usize),
+            4 => Node::Times(count(a), count(b) as usize),
+            5 => Node::At(Place { x: a, y: b }, count(c) as usize),
+            6 => Node::Turn(count(a) as usize),
+            7 => Node::Mirror(count(a) as usize),
+            _ => Node::Sub(count(a) as usize),
         }
     }
 
@@ -57,7 +52,7 @@ impl Node {
         requires { 4 * n + 4 ≤ length nodes.now }
         ensures { result ≡ node_in nodes.now n }
     {
-        let kind = unsigned(nodes[4 * n]);
+        let kind = count(nodes[4 * n]);
         Node::of(kind, nodes[4 * n + 1], nodes[4 * n + 2], nodes[4 * n + 3])
     }
 
@@ -79,5 +74,5 @@ pub fn is_well_named(nodes: &[i64], n: usize) -> bool
     requires { 4 * n + 4 ≤ length nodes.now }
     ensures { result ≡ well_named nodes.now n }
 {
-    unsigned(nodes[4 * n]) <= 8 && Node::read(nodes, n).names_below(n)
+    count(nodes[4 * n]) <= 8 && Node::read(nodes, n).names_below(n)
 }

@@ -4,6 +4,9 @@
 use Rattle.std.specs.Prelude.{ℕ}
 use Rattle.refusal.specs.declared.Refusal.{Refusal}
 use Rattle.refusal.specs.declared.Refusal.TheVariants.{Shape, Number, Node, Room, Reach, Machine, Lent, Event, Text}
+use Rattle.refusal.specs.declared.MachinePart.TheVariants.{Change, Top}
+use Rattle.refusal.specs.declared.LentPart.TheVariants.{Targets, Place, Memory}
+use Rattle.refusal.specs.declared.EventPart.TheVariants.{Kind, Number as Value}
 
 abbrev pub number : Refusal → ℕ
 number (Shape n) = 1
@@ -22,7 +25,11 @@ place (Number n) = n
 place (Node n) = n
 place (Room n) = n
 place (Reach n) = n
-place (Machine n) = n
-place (Lent n) = n
-place (Event n) = n
+place (Machine Change) = 0
+place (Machine Top) = 1
+place (Lent Targets) = 0
+place (Lent Place) = 1
+place (Lent Memory) = 2
+place (Event Kind) = 0
+place (Event Value) = 1
 place (Text n) = n

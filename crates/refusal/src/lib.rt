@@ -8,6 +8,32 @@
 ghost use Rattle.std.specs.Prelude.{◌≡◌};
 ghost use Rattle.refusal.specs.Refusals.{number, place};
 
+mod failed;
+
+pub use failed::Failed;
+
+// What of a machine is turned away.
+#[derive(Clone, Copy, PartialEq, Eq, Debug)]
+pub enum MachinePart {
+    Change,
+    Top,
+}
+
+// What of lent numbers: targets that aren't three numbers each, a place past 10^9, or memory.
+#[derive(Clone, Copy, PartialEq, Eq, Debug)]
+pub enum LentPart {
+    Targets,
+    Place,
+    Memory,
+}
+
+// What of an event: its kind, or the number with it.
+#[derive(Clone, Copy, PartialEq, Eq, Debug)]
+pub enum EventPart {
+    Kind,
+    Number,
+}
+
 #[derive(Clone, Copy, PartialEq, Eq, Debug)]
 pub enum Refusal {
     // 1: nodes that aren't four numbers each, none, or more than 1,024. How many numbers.
@@ -20,12 +46,12 @@ pub enum Refusal {
     Room(u64),
     // 5: a target past 10^9 either way. The target.
     Reach(u64),
-    // 6: a change (0) or top speed (1) of 0 or above 1,000,000.
-    Machine(u64),
-    // 7: lent numbers: 0 targets that aren't three numbers each, 1 a place past 10^9, 2 memory.
-    Lent(u64),
-    // 8: an event that can't happen (0), or a number with it above 1,000 (1).
-    Event(u64),
+    // 6: a change or a top speed of 0 or above 1,000,000. Which.
+    Machine(MachinePart),
+    // 7: lent numbers that can't be taken. Which.
+    Lent(LentPart),
+    // 8: an event that can't happen, or a number with it above 1,000. Which.
+    Event(EventPart),
     // 9: a text that can't be read. Its line.
     Text(u64),
 }
@@ -58,10 +84,14 @@ impl Refusal {
             | Refusal::Node(n)
             | Refusal::Room(n)
             | Refusal::Reach(n)
-            | Refusal::Machine(n)
-            | Refusal::Lent(n)
-            | Refusal::Event(n)
             | Refusal::Text(n) => n,
+            Refusal::Machine(MachinePart::Change) => 0,
+            Refusal::Machine(MachinePart::Top) => 1,
+            Refusal::Lent(LentPart::Targets) => 0,
+            Refusal::Lent(LentPart::Place) => 1,
+            Refusal::Lent(LentPart::Memory) => 2,
+            Refusal::Event(EventPart::Kind) => 0,
+            Refusal::Event(EventPart::Number) => 1,
         }
     }
 }

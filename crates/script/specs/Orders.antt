@@ -21,7 +21,8 @@ use Rattle.script.specs.declared.fault.Expected.TheVariants as expected
 use Rattle.script.specs.declared.fault.Wrong.{Wrong}
 use Rattle.script.specs.declared.script.Order.{Order}
 use Rattle.script.specs.declared.script.Order.TheVariants.{To, Tick, Hold, Go, Knob, Where}
-use Rattle.word.specs.Numbers.{number_of, size}
+use Rattle.count.specs.Counts.{size}
+use Rattle.word.specs.Numbers.{number_of}
 
 pub record Misread : Type 0 where
   pub found : List ℕ

@@ -11,6 +11,9 @@
 use Rattle.std.specs.Prelude.{◌≡◌, ℕ, ◌+◌, ◌^◌, ◌<◌, List, [], length, Some, None, Ok, Err, vec_items, Option, Result, Vec}
 use Rattle.std.specs.declared.alloc.Global.{Global}
 use Rattle.refusal.specs.declared.Refusal.{Refusal}
+use Rattle.refusal.specs.declared.EventPart.TheVariants as event
+use Rattle.refusal.specs.declared.LentPart.TheVariants as lent
+use Rattle.refusal.specs.declared.MachinePart.TheVariants as machine
 use Rattle.refusal.specs.declared.Refusal.TheVariants as refused
 use Rattle.script.specs.declared.script.Script.{Script}
 use Rattle.script.specs.declared.fault.Fault.{Fault}
@@ -26,10 +29,10 @@ use Rattle.script.specs.Scripts.{Told, Unread, orders_from, told_by, reads, unfi
 
 abbrev pub refusal : ScriptError → Option Refusal
 refusal (Text line wrong) = Some (refused.Text line)
-refusal (Number (Change n)) = Some (refused.Machine 0)
-refusal (Number (Top n)) = Some (refused.Machine 1)
-refusal (Number (Far p)) = Some (refused.Lent 1)
-refusal (Number (Knob n)) = Some (refused.Event 1)
+refusal (Number (Change n)) = Some (refused.Machine machine.Change)
+refusal (Number (Top n)) = Some (refused.Machine machine.Top)
+refusal (Number (Far p)) = Some (refused.Lent lent.Place)
+refusal (Number (Knob n)) = Some (refused.Event event.Number)
 refusal Memory = None
 
 abbrev pub unread : ℕ → Wrong → Unread

@@ -4,7 +4,7 @@ ghost use Rattle.script.specs.declared.fault.ScriptError.TheVariants.{Memory};
 ghost use Rattle.script.specs.Refusals.{refusal};
 
 use geometry::Place;
-use refusal::Refusal;
+use refusal::{EventPart, LentPart, MachinePart, Refusal};
 use std::alloc::AllocFailed;
 
 // What may stand where a word stands that can't.
@@ -48,10 +48,10 @@ impl ScriptError<'_> {
     {
         match self {
             ScriptError::Text(line, _) => Some(Refusal::Text(*line)),
-            ScriptError::Number(Fault::Change(_)) => Some(Refusal::Machine(0)),
-            ScriptError::Number(Fault::Top(_)) => Some(Refusal::Machine(1)),
-            ScriptError::Number(Fault::Far(_)) => Some(Refusal::Lent(1)),
-            ScriptError::Number(Fault::Knob(_)) => Some(Refusal::Event(1)),
+            ScriptError::Number(Fault::Change(_)) => Some(Refusal::Machine(MachinePart::Change)),
+            ScriptError::Number(Fault::Top(_)) => Some(Refusal::Machine(MachinePart::Top)),
+            ScriptError::Number(Fault::Far(_)) => Some(Refusal::Lent(LentPart::Place)),
+            ScriptError::Number(Fault::Knob(_)) => Some(Refusal::Event(EventPart::Number)),
             ScriptError::Memory => None,
         }
     }

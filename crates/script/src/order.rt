@@ -1,12 +1,12 @@
 // What the words of a line say: the machine, or an order.
 ghost use Rattle.std.specs.Prelude.{◌≡◌, Ok, Err, MatchResult};
-ghost use Rattle.word.specs.Numbers.{size};
 ghost use Rattle.script.specs.Words.{words};
 ghost use Rattle.script.specs.Orders.{misread, numbered, last_of, speed_of, target_of, named_of, plain_of, order_of, machine_of};
 
 use crate::fault::{Expected, Wrong};
 use crate::scanner::first_word;
 use crate::script::Order;
+use count::count;
 use geometry::Place;
 use program::Target;
 use word::{is, number};
@@ -52,13 +52,6 @@ fn speed(line: &[u8]) -> Result<i64, Wrong<'_>>
         });
     }
     last_number(rest)
-}
-
-// A number that counts: 0 if it is below 0.
-fn count(n: i64) -> u64
-    ensures { result ≡ size n }
-{
-    if n < 0 { 0 } else { n as u64 }
 }
 
 // What stands behind `to`.

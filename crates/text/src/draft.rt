@@ -1,12 +1,13 @@
 // A program's nodes while its text is read: those built so far, the blocks that are open, and the sub-programs.
 ghost use Rattle.std.specs.Prelude.{◌≡◌, IfOk, OnOk};
-ghost use Rattle.word.specs.Numbers.{size};
+ghost use Rattle.count.specs.Counts.{size};
 ghost use Rattle.text.specs.Nodes.{next_node, node, body_of};
 ghost use Rattle.text.specs.Reading.{held_of, Stepped, Finished};
 ghost use Rattle.text.specs.Reading.{empty, put_line, begun, bodied, outside, fresh, ended, closed, named, expected_of, at_end};
 
 use crate::error::{Expected, Fault};
 use crate::phase::{Block, Head, Phase};
+use count::count;
 use std::alloc::{AllocError, Global};
 
 // An open block, and the node of the lines before it.
@@ -130,7 +131,7 @@ impl Draft {
     pub fn name(&self, name: i64) -> Result<Phase, Fault>
         ensures { Stepped (named (size name) (held_of self.now)) result (held_of self.now) (held_of self.now) }
     {
-        let name = natural(name);
+        let name = count(name) as usize;
         if name < self.subs.len() {
             return Ok(Phase::UseEnd(self.subs[name]));
         }
@@ -180,11 +181,4 @@ impl Draft {
         } = self;
         Ok(nodes)
     }
-}
-
-// A name below 0 is 0.
-fn natural(name: i64) -> usize
-    ensures { result ≡ size name }
-{
-    if name < 0 { 0 } else { name as usize }
 }

@@ -3,8 +3,7 @@
 --   up n, down n    n and -n, cut to the ends of a signed number of 64 bits
 --   mapped f o      what f gives of the value in o, if there is one
 --   number_of w     the number that a word writes: `-` at most once, then one or more digits
---   size z          z, or 0 where it is below 0
-use Rattle.std.specs.Prelude.{ℕ, ◌-◌, ◌^◌, min, cond, List, [], ◌∷◌, ℤ, pos, negsuc, ◌-ℤ◌, Some, None, Option, ◌==◌}
+use Rattle.std.specs.Prelude.{ℕ, ◌-◌, ◌^◌, min, cond, List, [], ◌∷◌, ℤ, pos, ◌-ℤ◌, Some, None, Option, ◌==◌}
 use Rattle.std.specs.Str.Parse.{digits_value}
 use Rattle.std.specs.Str.{all_ascii_digits}
 
@@ -25,7 +24,3 @@ mapped f (Some x) = Some (f x)
 abbrev pub number_of : List ℕ → Option ℤ
 number_of [] = None
 number_of (c ∷ cs) = cond (c == 45) (mapped down (magnitude cs)) (mapped up (magnitude (c ∷ cs)))
-
-abbrev pub size : ℤ → ℕ
-size (pos n) = n
-size (negsuc n) = 0

@@ -1,6 +1,7 @@
 use Rattle.std.proofs.Common.{◌≡◌, ℕ, ◌+◌, ◌*◌, List, get_or, ℤ, pos, ap, ◌∙◌, add-zero, w64, SFits, rules}
 use Rattle.std.proofs.lemmas.Int.{to_z-of_z}
-use Rattle.program.specs.Nodes.{size, node_of, node_in}
+use Rattle.count.specs.Counts.{size}
+use Rattle.program.specs.Nodes.{node_of, node_in}
 use Rattle.program.specs.declared.node.Node.{Node}
 use Rattle.program.proofs.node.Node.read.Goals as goal
 
@@ -17,4 +18,4 @@ returns c =
     let f1 : SFits w64 (get_or xs (4 * n + 1) (pos 0)) = search rules in
     let f2 : SFits w64 (get_or xs (4 * n + 2) (pos 0)) = search rules in
     let f3 : SFits w64 (get_or xs (4 * n + 3) (pos 0)) = search rules in
-    read_is xs n _ _ _ _ _ c.of.ensures (c.unsigned-kind.ensures ∙ ap size (to_z-of_z w64 _ f)) (to_z-of_z w64 _ f1) (to_z-of_z w64 _ f2) (to_z-of_z w64 _ f3)
+    read_is xs n _ _ _ _ _ c.of.ensures (c.count-kind.ensures ∙ ap size (to_z-of_z w64 _ f)) (to_z-of_z w64 _ f1) (to_z-of_z w64 _ f2) (to_z-of_z w64 _ f3)
