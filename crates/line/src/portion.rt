@@ -13,7 +13,7 @@ pub struct Portion {
 impl Portion {
     // How many steps of a way of `way` are made, halves rounded up.
     #[tactic(auto, using(crate::proofs::Parts::quotients))]
-    fn of_way(self, way: u64) -> u64
+    fn part_of(self, way: u64) -> u64
         requires { way ≤ self.of }
         ensures value { result ≡ part self.made self.of way }
         ensures bound { result ≤ self.made }
@@ -35,7 +35,7 @@ impl Portion {
         requires way { unsigned_abs (to -ℤ from) ≤ self.of }
         ensures { result ≡ from +ℤ share self.made self.of (to -ℤ from) }
     {
-        let made = self.of_way(from.abs_diff(to)) as i64;
+        let made = self.part_of(from.abs_diff(to)) as i64;
         if to < from { from - made } else { from + made }
     }
 }
