@@ -16,31 +16,31 @@ use Rattle.circle.proofs.Symmetry.{on_turns}
 use Rattle.circle.proofs.Round.{turns_more, turns_round, after_in}
 
 module _ (q : ℕ) where
-  pub into_low : (a b : ℕ) → b ≤ a → into q a b ≡ b
+  into_low : (a b : ℕ) → b ≤ a → into q a b ≡ b
   unfolding into
   into_low a b h = cond-true (leb b a) _ _ (grind (arith, nat_tests))
 
-  pub into_high : (a b : ℕ) → a < b → into q a b ≡ q - a
+  into_high : (a b : ℕ) → a < b → into q a b ≡ q - a
   unfolding into
   into_high a b h = cond-false (leb b a) _ _ (grind (arith, nat_tests))
 
 module _ (R : ℕ) (x y : ℤ) where
-  pub index_first : pos 0 <ℤ x → pos 0 ≤ℤ y → index R (record { x = x; y = y }) ≡ into (quarter R) (nat_abs x) (nat_abs y)
+  index_first : pos 0 <ℤ x → pos 0 ≤ℤ y → index R (record { x = x; y = y }) ≡ into (quarter R) (nat_abs x) (nat_abs y)
   unfolding index
   index_first h k = cond-true (lt_z (pos 0) x && le_z (pos 0) y) _ _ (grind (arith, ints))
 
-  pub index_second : x ≤ℤ pos 0 → pos 0 <ℤ y → index R (record { x = x; y = y }) ≡ quarter R + into (quarter R) (nat_abs y) (nat_abs x)
+  index_second : x ≤ℤ pos 0 → pos 0 <ℤ y → index R (record { x = x; y = y }) ≡ quarter R + into (quarter R) (nat_abs y) (nat_abs x)
   unfolding index
   index_second h k =
       cond-false (lt_z (pos 0) x && le_z (pos 0) y) _ _ (grind (arith, ints)) ∙ cond-true (lt_z (pos 0) y) _ _ (grind (arith, ints))
 
-  pub index_third : x <ℤ pos 0 → y ≤ℤ pos 0 → index R (record { x = x; y = y }) ≡ 2 * quarter R + into (quarter R) (nat_abs x) (nat_abs y)
+  index_third : x <ℤ pos 0 → y ≤ℤ pos 0 → index R (record { x = x; y = y }) ≡ 2 * quarter R + into (quarter R) (nat_abs x) (nat_abs y)
   unfolding index
   index_third h k =
       cond-false (lt_z (pos 0) x && le_z (pos 0) y) _ _ (grind (arith, ints)) ∙ cond-false (lt_z (pos 0) y) _ _ (grind (arith, ints))
       ∙ cond-true (lt_z x (pos 0)) _ _ (grind (arith, ints))
 
-  pub index_fourth : pos 0 ≤ℤ x → y ≤ℤ pos 0 → (y <ℤ pos 0) ⊎ (x ≤ℤ pos 0) → index R (record { x = x; y = y }) ≡ 3 * quarter R + into (quarter R) (nat_abs y) (nat_abs x)
+  index_fourth : pos 0 ≤ℤ x → y ≤ℤ pos 0 → (y <ℤ pos 0) ⊎ (x ≤ℤ pos 0) → index R (record { x = x; y = y }) ≡ 3 * quarter R + into (quarter R) (nat_abs y) (nat_abs x)
   unfolding index
   index_fourth h k l =
       cond-false (lt_z (pos 0) x && le_z (pos 0) y) _ _ (grind (arith, ints)) ∙ cond-false (lt_z (pos 0) y) _ _ (grind (arith, ints))

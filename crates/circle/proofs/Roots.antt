@@ -28,7 +28,7 @@ means a b =
     ]
 
 -- the mean of a guess and what it divides n into is no guess too small
-pub mean_above : (n x : ℕ) → 0 < x → n < suc ((x + n / x) / 2) * suc ((x + n / x) / 2)
+mean_above : (n x : ℕ) → 0 < x → n < suc ((x + n / x) / 2) * suc ((x + n / x) / 2)
 mean_above n x p =
     let d = n / x in
     let y = (x + d) / 2 in
@@ -36,7 +36,7 @@ mean_above n x p =
     omega (arith, means x (suc d), div-add-mod' n x, mod_below n x p)
 
 -- and where it is no less, neither is the guess too large
-pub mean_below : (n x : ℕ) → x ≤ (x + n / x) / 2 → x * x ≤ n
+mean_below : (n x : ℕ) → x ≤ (x + n / x) / 2 → x * x ≤ n
 mean_below n x h = omega (arith, mul-le x x x (n / x) (omega arith) (omega arith), div-add-mod' n x)
 
 -- a guess g is not too small, and no more than 32 bits' worth
@@ -62,11 +62,6 @@ first_guess n h =
     ap (λ (j : ℕ). (1 * 2 ^ j) % 2 ^ 64) e ∙ one_shl ((k + 1) / 2) 64 (omega (arith, l.1)) in
     subst (Guess n) (sym g) (power_guess n k (omega (arith, l.1)) l.2)
 
--- c is the whole number nearest to the root of n
-pub record Rooted (n c : ℕ) : Type 0 where
-  pub low : c * c ≤ n + (c - 1)
-  pub high : n ≤ c * c + c
-
 root_le : (n r s : ℕ) → Root n r → Root n s → r ≤ s
 root_le n r s f g =
     elim (cases_lt s r) [
@@ -74,8 +69,30 @@ root_le n r s f g =
       | inr k ↦ k
     ]
 
-pub root_only : (n r : ℕ) → Root n r → r ≡ root n
+root_only : (n r : ℕ) → Root n r → r ≡ root n
 root_only n r f = omega (arith, root_le n r (root n) f (root_is n), root_le n (root n) r (root_is n) f)
+
+-- a smaller mean is a guess, and with no smaller one the guess is the root
+pub guess_next : (n x y : ℕ) → 0 < n → Guess n x → y ≡ (x + n / x) / 2 → y < x → Guess n y
+guess_next n x y p g e h = record {
+  some = elim (cases_lt 0 y) [ inl k ↦ k | inr k ↦ (let z : y ≡ 0 = omega arith in absurd (omega (arith, rw z at above))) ];
+  bound = omega (arith, g.bound);
+  above = above;
+}
+  where
+    above : n < suc y * suc y
+    above = rw e (mean_above n x g.some)
+
+pub guess_last : (n x y : ℕ) → Guess n x → y ≡ (x + n / x) / 2 → x ≤ y → x ≡ root n
+guess_last n x y g e h = root_only n x (record { low = mean_below n x (omega arith); high = g.above })
+
+-- what the code's loop rests on
+pub ruleset guesses = (first_guess, guess_next, guess_last)
+
+-- c is the whole number nearest to the root of n
+pub record Rooted (n c : ℕ) : Type 0 where
+  pub low : c * c ≤ n + (c - 1)
+  pub high : n ≤ c * c + c
 
 rooted_le : (n c d : ℕ) → Rooted n c → Rooted n d → c ≤ d
 rooted_le n c d f g =

@@ -29,16 +29,6 @@ unfolding on
 true_on R p h =
     let i = h.inside in let o = h.outside in grind (arith, nat_tests)
 
--- as code computes it
-module _ (R x y m : ℕ) (p : Place) (e : x ≡ nat_abs p.x) (f : y ≡ nat_abs p.y) (g : m ≡ max x y) where
-  pub on_then : R ≤ x * x + y * y + m → ltb (x * x + y * y) (R + m) ≡ on R p
-  unfolding on square
-  on_then h = rw (← e, ← f, ← g) (grind (arith, nat_tests))
-
-  pub on_else : x * x + y * y + m < R → leb R (x * x + y * y + m) ≡ on R p
-  unfolding on square
-  on_else h = rw (← e, ← f, ← g) (grind (arith, nat_tests))
-
 -- with no steps in a quarter the circle is its middle
 corner_none : (R j : ℕ) → quarter R ≡ 0 → corner R j ≡ at 0 0
 corner_none R j e =

@@ -14,14 +14,15 @@
 
 ghost use Rattle.circle.specs.Laws.{CircleLaws};
 
-mod along;
+mod circle;
+mod on;
 mod root;
-mod walk;
 
-pub use along::{index, is_on};
-pub use walk::{place, place_in, quarter};
+pub use circle::Circle;
+pub use on::is_on;
 
 // Nothing to run: what holds of every circle is what it ensures.
+#[tactic(auto, using(crate::proofs::Walks::circle_laws))]
 pub fn circle_laws_hold() -> u8
     ensures { CircleLaws }
 {

@@ -1,5 +1,5 @@
 -- One axis, without its sign: the part of a way that is made after n of m steps.
-use Rattle.std.proofs.Common.{◌≡◌, ℕ, zero, suc, ◌+◌, ◌*◌, ◌/◌, ◌<◌, ◌≤◌, refl, ap, ◌∙◌, zero-add, arith}
+use Rattle.std.proofs.Common.{◌≡◌, ℕ, zero, suc, ◌+◌, ◌*◌, ◌/◌, ◌<◌, ◌≤◌, refl, ap, ◌∙◌, arith}
 use native.Mathlib.Nat.{div-add-mod}
 use Rattle.std.proofs.lemmas.Nat.{div-mul-add, div_below, le-div, mod_below, mul-le}
 use Rattle.line.specs.Lines.{part}
@@ -59,12 +59,11 @@ part_by n u (suc m) d h =
           (omega (arith, part_rounds n (suc m) d (omega arith))),
     )
 
--- so no more steps than the line
-pub part_le : (n m d : ℕ) → d ≤ m → part n m d ≤ n
-part_le n m d h = omega (arith, part_none m d h, part_by 0 n m d h, ap (λ k. part k m d) (zero-add n))
-
 -- as code computes it
 pub part_quotient : (n m d : ℕ) → 0 < m → (2 * d * n + m) / (2 * m) ≡ part n m d
 unfolding part
 part_quotient n zero d p = absurd (omega arith)
 part_quotient n (suc m) d p = ap (λ (x : ℕ). x / (2 * suc m)) (omega arith)
+
+-- what the code's three cases rest on
+pub ruleset quotients = (part_still, part_every, part_quotient)

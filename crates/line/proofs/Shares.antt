@@ -47,15 +47,15 @@ share_nearest n m (negsuc d) p =
     omega (arith, ints, times_back m (part n m (suc d)), ap (λ k. m * k) (share_size n m (negsuc d)))
 
 -- as code computes it, by the way's sign
-pub share_down : (n m : ℕ) (d : ℤ) → d <ℤ pos 0 → share n m d ≡ pos 0 -ℤ pos (part n m (nat_abs d))
+pub share_down : (n m w : ℕ) (d : ℤ) → d <ℤ pos 0 → w ≡ nat_abs d → share n m d ≡ pos 0 -ℤ pos (part n m w)
 unfolding share
-share_down n m (pos d) h = absurd (omega (arith, ints))
-share_down n m (negsuc d) h = refl
+share_down n m w (pos d) h e = absurd (omega (arith, ints))
+share_down n m w (negsuc d) h e = rw e
 
-pub share_up : (n m : ℕ) (d : ℤ) → pos 0 ≤ℤ d → share n m d ≡ pos (part n m (nat_abs d))
+pub share_up : (n m w : ℕ) (d : ℤ) → pos 0 ≤ℤ d → w ≡ nat_abs d → share n m d ≡ pos (part n m w)
 unfolding share
-share_up n m (pos d) h = refl
-share_up n m (negsuc d) h = absurd (omega (arith, ints))
+share_up n m w (pos d) h e = rw e
+share_up n m w (negsuc d) h e = absurd (omega (arith, ints))
 
 -- the same, where the axis begins at a
 module _ (a b : ℤ) (m : ℕ) where

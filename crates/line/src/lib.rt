@@ -12,7 +12,7 @@ ghost use Rattle.std.specs.Prelude.{◌≡◌};
 ghost use Rattle.line.specs.Laws.{LineLaws};
 
 mod line;
-mod share;
+mod portion;
 
 pub use line::Line;
 

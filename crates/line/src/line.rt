@@ -3,7 +3,7 @@ ghost use Rattle.std.specs.Prelude.{◌≡◌, ◌≤◌};
 ghost use Rattle.geometry.specs.Places.{Within};
 ghost use Rattle.line.specs.Lines.{long, on_line};
 
-use crate::share::along;
+use crate::portion::Portion;
 use geometry::Place;
 
 #[derive(Clone, Copy)]
@@ -14,6 +14,7 @@ pub struct Line {
 
 impl Line {
     // How many steps its longer axis makes.
+    #[tactic(auto, unfolding(crate::specs::Lines::long))]
     pub fn length(self) -> u64
         ensures { result ≡ long self.from self.to }
     {
@@ -23,16 +24,20 @@ impl Line {
     }
 
     // Where it is after n of its steps; past its length it goes on beyond its end.
+    #[tactic(auto, unfolding(crate::specs::Lines::on_line))]
     pub fn place(self, n: u64) -> Place
         requires from { Within 1000000000 self.from }
         requires to { Within 1000000000 self.to }
         requires steps { n ≤ 2000000000 }
         ensures { result ≡ on_line self.from self.to n }
     {
-        let length = self.length();
+        let portion = Portion {
+            made: n,
+            of: self.length(),
+        };
         Place {
-            x: along(self.from.x, self.to.x, n, length),
-            y: along(self.from.y, self.to.y, n, length),
+            x: portion.along(self.from.x, self.to.x),
+            y: portion.along(self.from.y, self.to.y),
         }
     }
 }

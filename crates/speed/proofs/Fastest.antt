@@ -67,3 +67,8 @@ module _ (a c l v : ℕ) (p : 1 ≤ a) where
         | inl k ↦ let e : max (v - a) (min (fastest a l (v + a)) c) ≡ v - a = omega arith in rw e (omega (arith, slows a v p))
         | inr k ↦ let e : max (v - a) (min (fastest a l (v + a)) c) ≡ min (fastest a l (v + a)) c = omega arith in rw e (omega (arith, grows a (min (fastest a l (v + a)) c) (fastest a l (v + a)) p (omega arith), fits a l (v + a)))
       ]
+
+-- what the looks for the next speed rest on, and the bisection among them
+pub ruleset looks = (at_slowest, at_highest, between)
+
+pub ruleset bisection = (best, cut)

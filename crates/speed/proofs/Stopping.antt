@@ -56,7 +56,7 @@ by_quotient a v p =
     rw add-one (closed (v / a) a v p h i)
 
 -- what a closed form's products come to, within v * v + v
-pub products : (a v : ℕ) → 1 ≤ a → (v / a * v ≤ v * v) × (a * (v / a * (v / a + 1)) ≤ v * (v + 1))
+products : (a v : ℕ) → 1 ≤ a → (v / a * v ≤ v * v) × (a * (v / a * (v / a + 1)) ≤ v * (v + 1))
 products a v p =
     let d : v / a * a + v % a ≡ v = div-add-mod' v a in
     let q : v / a ≤ v = omega arith in
@@ -70,3 +70,16 @@ products a v p =
 pub small : (a v : ℕ) → 1 ≤ a → v < 2 ^ 32 → v + stopping a v < 2 ^ 64
 small a v p h =
     omega (arith, by_quotient a v p, (products a v p).0, mul-le v v 4294967295 4294967295 (omega arith) (omega arith))
+
+-- and so does what the closed form halves and takes away, which is no more than what it takes it from
+pub taken_fits : (a v : ℕ) → 1 ≤ a → v < 2 ^ 32 → a * (v / a * (v / a + 1)) < 2 ^ 64
+taken_fits a v p h =
+    omega (arith, (products a v p).1, mul-le v (v + 1) 4294967295 4294967296 (omega arith) (omega arith))
+
+pub taken_le : (a v : ℕ) → 1 ≤ a → a * (v / a * (v / a + 1)) / 2 ≤ v / a * v
+taken_le a v p = omega (arith, by_quotient a v p)
+
+-- what the closed form and the loop over ticks rest on
+pub ruleset closed_form = (slow, by_quotient, taken_fits, taken_le)
+
+pub ruleset tick_by_tick = (slow, slows, small)

@@ -9,7 +9,7 @@ ghost use Rattle.work.specs.Works.{begun_at, arrive, advance, after_tick, stands
 use geometry::Place;
 use line::Line;
 use program::Target;
-use speed::next_speed;
+use speed::Change;
 
 #[derive(Clone, Copy)]
 pub struct Motion {
@@ -42,7 +42,8 @@ impl Motion {
             to: target.to,
         }
         .length();
-        let speed = next_speed(change, cap, length.saturating_sub(self.done), self.speed);
+        let left = length.saturating_sub(self.done);
+        let speed = Change { steps: change }.next_speed(cap, left, self.speed);
         self.arrive(target.to, length, self.done + speed, speed)
     }
 
