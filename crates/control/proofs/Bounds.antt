@@ -1,7 +1,8 @@
 -- What the code's sums and products ask for, of every state that a row of events leads to.
-use Rattle.std.proofs.Common.{◌≡◌, ℕ, zero, suc, ◌+◌, ◌*◌, ◌^◌, ◌<◌, ◌≤◌, Bool, true, ◌&&◌, List, [], ◌∷◌, ◌++◌, length, drop, Option, sym, refl, ap, ◌∙◌, subst, arith}
-use lib.Seq.{drop-append-le}
+use Rattle.std.proofs.Common.{◌≡◌, ℕ, zero, suc, ◌+◌, ◌*◌, ◌^◌, ◌<◌, ◌≤◌, true, List, [], ◌∷◌, ◌++◌, length, drop, Option, sym, refl, ap, ◌∙◌, subst, arith}
 use Rattle.std.proofs.lemmas.Int.{ints}
+use Rattle.std.proofs.lemmas.List.{drop-append-le}
+use Rattle.std.proofs.lemmas.List.Folds.{list_all-append}
 use Rattle.std.proofs.lemmas.Bool.{and_parts}
 use Rattle.std.proofs.lemmas.Bool.Decides.{nat_tests}
 use Rattle.std.specs.Option.{option_to_list}
@@ -20,28 +21,25 @@ use Rattle.work.specs.declared.event.Event.TheVariants.{Tick, Hold, Go, Knob}
 use Rattle.work.specs.Works.{todo, toward, does, happens, stands, place}
 use Rattle.work.specs.Promises.{start_of, CanStop}
 use Rattle.work.specs.Ranges.{NearLine, Near, Ready}
-use Rattle.work.proofs.Lists.{nil_cons, some_left}
+use Rattle.work.proofs.Lists.{some_left}
 use Rattle.work.proofs.Safety.{Safe}
 use Rattle.work.proofs.Ticks.{begins}
 use Rattle.control.specs.Controls.{fit, near, origin, head_of}
 
 pub near_in : (ts : List Target) (b : ℕ) (t : Target) (us : List Target) → near ts ≡ true → drop b ts ≡ t ∷ us → Within 1000000000 t.to
-unfolding near
-near_in [] zero t us h e = absurd (nil_cons t us e)
-near_in [] (suc b) t us h e = absurd (nil_cons t us e)
+near_in [] zero t us h e = cc
+near_in [] (suc b) t us h e = cc
 near_in (x ∷ ts) zero t us h e = let f : x ≡ t = cc in subst (λ (y : Target). Within 1000000000 y.to) f (within_true 1000000000 x.to (and_parts _ _ h).0)
 near_in (x ∷ ts) (suc b) t us h e = near_in ts b t us (and_parts _ _ h).1 e
 
 pub near_start : (p : Place) (ts : List Target) (k : ℕ) → near ts ≡ true → Within 1000000000 p → Within 1000000000 (start_of p ts k)
-unfolding near start_of
+unfolding start_of
 near_start p ts zero h w = w
 near_start p [] (suc k) h w = w
 near_start p (t ∷ ts) (suc k) h w = near_start t.to ts k (and_parts _ _ h).1 (within_true 1000000000 t.to (and_parts _ _ h).0)
 
 pub near_push : (ts : List Target) (t : Target) → near ts ≡ true → within 1000000000 t.to ≡ true → near (ts ++ t ∷ []) ≡ true
-unfolding near
-near_push [] t h k = ap (λ (b : Bool). b && true) k
-near_push (x ∷ ts) t h k = ap (λ (b : Bool). b && near (ts ++ t ∷ [])) (and_parts _ _ h).0 ∙ near_push ts t (and_parts _ _ h).1 k
+near_push ts t h k = simp (list_all-append, h, k)
 
 -- an event, and where it is, see no more than the first of the targets still to go
 does_head : (m : Machine) (xs : List Target) (e : Event) (w : Work) → does m (option_to_list (head_of xs)) e w ≡ does m xs e w

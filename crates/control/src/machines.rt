@@ -11,10 +11,10 @@ const MOST: u64 = 1_000_000;
 pub fn machine(change: u64, top: u64) -> Result<Machine, Refusal>
     ensures { result ≡ machine_of change top }
 {
-    if change < 1 || MOST < change {
+    if !(1..=MOST).contains(&change) {
         return Err(Refusal::Machine(MachinePart::Change));
     }
-    if top < 1 || MOST < top {
+    if !(1..=MOST).contains(&top) {
         return Err(Refusal::Machine(MachinePart::Top));
     }
     Ok(Machine { change, top })

@@ -60,7 +60,7 @@ fn run(
 
 // Where a control is after so many ticks more, by adding up their pulses.
 fn travel(control: &mut Control, count: u64) -> Place
-    ensures { result ≡ place control.old.targets.items (row control.old.machine control.old.targets.items (ticks count) control.old.work).motion }
+    ensures { result ≡ place control.old.targets (row control.old.machine control.old.targets (ticks count) control.old.work).motion }
 {
     let mut end = control.place();
     let mut left = count;

@@ -30,6 +30,7 @@ impl Pulses {
 }
 
 // A motor follows the work, over every row of events.
+#[tactic(auto, using(crate::proofs::Follows::motor_laws))]
 pub fn motor_follows() -> u8
     ensures { MotorLaws }
 {

@@ -14,7 +14,7 @@ use Rattle.work.proofs.Rest.{stands_held}
 use Rattle.work.proofs.Arrival.{arrives}
 use Rattle.work.proofs.Fewest.{fewest, fewest_of_all}
 
-kept : (m : Machine) (ts : List Target) (w : Work) (e : Event) → (e ≡ Tick → ⊥) → (happens m ts e w).motion ≡ w.motion
+pub kept : (m : Machine) (ts : List Target) (w : Work) (e : Event) → (e ≡ Tick → ⊥) → (happens m ts e w).motion ≡ w.motion
 kept m ts w Tick h = absurd (h refl)
 kept m ts w Hold h = refl
 kept m ts w Go h = refl

@@ -23,6 +23,7 @@ pub use panel::Panel;
 pub use work::Work;
 
 // The promise holds: for every machine that can move, every list of targets and every row of events.
+#[tactic(auto, using(crate::proofs::Promise::promised))]
 pub fn promise_holds() -> u8
     ensures { Promised }
 {

@@ -33,15 +33,12 @@ impl Motion {
     }
 
     // A tick under a cap, on the way to a target.
+    #[tactic(auto, using(speed::proofs::Fastest::no_more))]
     pub fn advance(self, change: u64, cap: u64, target: Target) -> Motion
         requires small { Small change self }
         ensures { result ≡ advance change «cap» self target }
     {
-        let length = Line {
-            from: self.from,
-            to: target.to,
-        }
-        .length();
+        let length = self.line_to(target).length();
         let left = length.saturating_sub(self.done);
         let speed = Change { steps: change }.next_speed(cap, left, self.speed);
         self.arrive(target.to, length, self.done + speed, speed)
@@ -66,6 +63,16 @@ impl Motion {
         }
     }
 
+    // The line that it is on, on the way to a target.
+    fn line_to(self, target: Target) -> Line
+        ensures { result ≡ record { from = self.from; to = target.to } }
+    {
+        Line {
+            from: self.from,
+            to: target.to,
+        }
+    }
+
     // Where it is after a tick on the way to a target, with so many targets behind it before.
     pub fn place_after(self, behind: usize, target: Target) -> Place
         requires near { self.behind ≡ behind → NearLine self target }
@@ -74,25 +81,18 @@ impl Motion {
         if self.behind != behind {
             return self.from;
         }
-        let line = Line {
-            from: self.from,
-            to: target.to,
-        };
-        line.place(self.done)
+        self.line_to(target).place(self.done)
     }
 
     // Where it is, on the way to a target or with none left.
+    #[tactic(auto, unfolding(crate::specs::Works::stands))]
     pub fn place(self, next: Option<Target>) -> Place
         requires near { Near self next }
         ensures { result ≡ stands self (option_to_list next) }
     {
         match next {
             None => self.from,
-            Some(target) => Line {
-                from: self.from,
-                to: target.to,
-            }
-            .place(self.done),
+            Some(target) => self.line_to(target).place(self.done),
         }
     }
 }

@@ -33,6 +33,7 @@ impl Work {
     }
 
     // A tick on the way to a target.
+    #[tactic(auto, unfolding(crate::specs::Works::toward))]
     pub fn tick_toward(self, machine: Machine, target: Target) -> Work
         requires slow { Slow machine self.motion }
         ensures { result ≡ does machine (target ∷ []) Tick self }
@@ -48,6 +49,7 @@ impl Work {
     }
 
     // A tick, on the way to the next target; with none left nothing moves.
+    #[tactic(auto, unfolding(crate::specs::Works::toward))]
     pub fn tick(self, machine: Machine, next: Option<Target>) -> Work
         requires ready { Ready machine self.motion next }
         ensures { result ≡ does machine (option_to_list next) Tick self }
@@ -62,26 +64,22 @@ impl Work {
     pub fn hold(self) -> Work
         ensures { result ≡ held self }
     {
-        let held = Panel {
-            held: true,
-            ..self.panel
-        };
-        Work {
-            panel: held,
-            ..self
-        }
+        self.with_held(true)
     }
 
     // Let go.
     pub fn go(self) -> Work
         ensures { result ≡ let_go self }
     {
-        let freed = Panel {
-            held: false,
-            ..self.panel
-        };
+        self.with_held(false)
+    }
+
+    // Held or let go.
+    fn with_held(self, held: bool) -> Work
+        ensures { result ≡ record { motion = self.motion; panel = record { held = held; percent = self.panel.percent } } }
+    {
         Work {
-            panel: freed,
+            panel: Panel { held, ..self.panel },
             ..self
         }
     }
@@ -90,14 +88,11 @@ impl Work {
     pub fn knob(self, percent: u64) -> Work
         ensures { result ≡ turned_to percent self }
     {
-        let turned = Panel {
+        let panel = Panel {
             percent: percent.min(100) as u32,
             ..self.panel
         };
-        Work {
-            panel: turned,
-            ..self
-        }
+        Work { panel, ..self }
     }
 
     // What an event does.

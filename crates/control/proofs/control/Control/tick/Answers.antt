@@ -1,56 +1,60 @@
-use Rattle.std.proofs.Common.{◌<◌, ◌≤◌, length, vec_items, sym, refl, subst, arith}
-use Rattle.geometry.specs.declared.place.Place.{Place}
+use Rattle.std.proofs.Common.{◌≡◌, suc, ◌∷◌, length, ◌≤◌, drop, sym, ap, ◌∙◌, arith, drop-cons}
 use Rattle.pulses.proofs.Follows.{still}
-use Rattle.work.specs.Works.{place}
+use Rattle.program.specs.declared.target.Target.{Target}
+use Rattle.work.specs.Works.{todo}
 use Rattle.work.specs.declared.event.Event.TheVariants.{Tick}
-use Rattle.control.specs.Controls.{Few}
-use Rattle.control.proofs.States.{slow_toward, ticks, near_toward, lands_at, idles, ghosts_at, happened, place_near, lands_near, gives, few}
+use Rattle.control.proofs.States.{near_at, slow_toward, ticks, near_toward, loaded_on, idles, happened, gives, gives_few}
 use Rattle.control.proofs.control.Control.tick.Goals as goal
+use Rattle.control.proofs.control.Control.tick.Goals.{In-Some, In_default}
 
-pub returns-then-behind-len : goal.returns-then-behind-len
-returns-then-behind-len c =
-    let s = c.args.self.now in
-    let i : length (vec_items s.targets) ≤ s.work.motion.behind = omega (arith, s.targets.ok.0) in
-    let h = idles s i in
-    let p : Place = place (vec_items s.targets) s.work.motion in
-    let g = gives s s.work p p _ h refl refl (sym (still p)) in
-    record { happened = happened s Tick s.work h; pulses = g; few = subst (Few s.machine (vec_items s.targets) s.work) (sym g) (few s) }
+-- the target is the first of those still to go
+first : (c : In-Some) → todo c.self.inside.targets.items c.self.inside.work.motion ≡ c.in-Some.field-0.now ∷ drop (suc c.self.inside.work.motion.behind) c.self.inside.targets.items
+first c =
+    let l = c.in-Some.ensures.lookup in
+    rw c.deref.ensures.value at (
+    drop-cons c.deref.result.now c.self.inside.work.motion.behind c.in-Some.field-0.now l.3.0
+    ∙ ap (λ (x : Target). x ∷ drop (suc c.self.inside.work.motion.behind) c.deref.result.now) (sym l.1))
+
+-- or there is none
+last : (c : In_default) → length c.self.inside.targets.items ≤ c.self.inside.work.motion.behind
+last c = rw c.deref.ensures.value at c.in_default.ensures.lookup.3
+
+pub returns-in_default : goal.returns-in_default
+returns-in_default c =
+    let s = c.self.inside in
+    let k = c.self.invariant in
+    let h = idles k (last c) in
+    rw (← c.self.view_is) (record {
+      happened = happened k Tick s.work h;
+      pulses = gives k s.work s.at _ h k.stood (sym (still s.at));
+      few = gives_few k _ (gives k s.work s.at _ h k.stood (sym (still s.at)));
+    })
 
 pub tick_toward-work-requires : goal.tick_toward-work-requires
 tick_toward-work-requires c =
-    let s = c.args.self.now in
-    record { slow = slow_toward s c.index-target.result.now (omega (arith, s.targets.ok.0)) c.index-target.ensures }
+    record { slow = slow_toward c.self.invariant _ _ (first (goal.at.tick_toward-work-requires c).In-Some) (omega (arith, c.self.inside.targets.ok.0)) }
 
 pub place_after-at-requires : goal.place_after-at-requires
 place_after-at-requires c =
-    let s = c.args.self.now in
-    record { near = near_toward s c.index-target.result.now (omega (arith, s.targets.ok.0)) c.index-target.ensures c.tick_toward-work.result c.tick_toward-work.ensures }
+    record { near = near_toward c.self.invariant _ _ (first (goal.at.place_after-at-requires c).In-Some) c.tick_toward-work.result c.tick_toward-work.ensures }
 
 pub between-pulses-requires : goal.between-pulses-requires
 between-pulses-requires c =
-    let s = c.args.self.now in
-    let i : s.work.motion.behind < length (vec_items s.targets) = omega (arith, s.targets.ok.0) in
-    let h = ticks s c.index-target.result.now i c.index-target.ensures c.tick_toward-work.result c.tick_toward-work.ensures in
-    let l = lands_at s c.index-target.result.now i c.index-target.ensures c.tick_toward-work.result c.tick_toward-work.ensures c.place_after-at.result c.place_after-at.ensures in
-    record { before = rw s.stood (place_near s); after = rw l (lands_near s Tick c.tick_toward-work.result h) }
+    let k = c.self.invariant in
+    let f = first (goal.at.between-pulses-requires c).In-Some in
+    record { before = near_at k; after = near_at (loaded_on k _ _ f c.tick_toward-work.result c.tick_toward-work.ensures c.place_after-at.result c.place_after-at.ensures) }
 
 pub invariant_of-self : goal.invariant_of-self
 invariant_of-self c =
-    let s = c.args.self.now in
-    let i : s.work.motion.behind < length (vec_items s.targets) = omega (arith, s.targets.ok.0) in
-    ghosts_at s Tick c.tick_toward-work.result c.place_after-at.result
-    (ticks s c.index-target.result.now i c.index-target.ensures c.tick_toward-work.result c.tick_toward-work.ensures)
-    (lands_at s c.index-target.result.now i c.index-target.ensures c.tick_toward-work.result c.tick_toward-work.ensures c.place_after-at.result c.place_after-at.ensures)
+    loaded_on c.self.invariant _ _ (first (goal.at.invariant_of-self c).In-Some)
+    c.tick_toward-work.result c.tick_toward-work.ensures c.place_after-at.result c.place_after-at.ensures
 
 pub returns : goal.returns
 returns c =
-    let s = c.args.self.now in
-    let i : s.work.motion.behind < length (vec_items s.targets) = omega (arith, s.targets.ok.0) in
-    let h = ticks s c.index-target.result.now i c.index-target.ensures c.tick_toward-work.result c.tick_toward-work.ensures in
-    let l = lands_at s c.index-target.result.now i c.index-target.ensures c.tick_toward-work.result c.tick_toward-work.ensures c.place_after-at.result c.place_after-at.ensures in
-    let g = gives s c.tick_toward-work.result s.at c.place_after-at.result c.between-pulses.result h s.stood l c.between-pulses.ensures in
-    record {
-      happened = happened s Tick c.tick_toward-work.result h;
-      pulses = g;
-      few = subst (Few s.machine (vec_items s.targets) s.work) (sym g) (few s);
-    }
+    let k = c.self.invariant in
+    let v = c.tick_toward-work.result in
+    let f = first (goal.at.returns c).In-Some in
+    let h = ticks k _ _ f v c.tick_toward-work.ensures in
+    let l = loaded_on k _ _ f v c.tick_toward-work.ensures c.place_after-at.result c.place_after-at.ensures in
+    let g = gives k v c.place_after-at.result c.between-pulses.result h l.stood c.between-pulses.ensures in
+    rw (← c.self.view_is) (record { happened = happened k Tick v h; pulses = g; few = gives_few k _ g })
