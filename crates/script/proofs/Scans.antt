@@ -1,8 +1,8 @@
 -- What the scanner's loops keep: the lines and the words that are left.
-use Rattle.std.proofs.Common.{◌≡◌, ℕ, zero, suc, ◌+◌, ◌<◌, ◌≤◌, true, false, cond, eqb, List, [], ◌∷◌, ◌++◌, length, get_or, take, drop, refl, ◌∙◌, arith}
+use Rattle.std.proofs.Common.{◌≡◌, ℕ, zero, suc, ◌+◌, ◌<◌, ◌≤◌, true, false, eqb, List, [], ◌∷◌, length, get_or, take, drop, refl, ◌∙◌, arith}
 use Rattle.std.proofs.lemmas.List.{take_more, drop_more, take_all, drop_all, length-take-le}
 use Rattle.std.proofs.lemmas.Bool.{both_ways}
-use Rattle.script.specs.Words.{gap, begun, row, words_after, words, lines_after, lines, feeds}
+use Rattle.script.specs.Words.{gap, begun, row, words_after, words, lines_after, lines}
 
 -- one byte on
 pub words_gap : (bs : List ℕ) (i : ℕ) → i < length bs → gap (get_or bs i 0) ≡ true → words (drop (i + 1) bs) ≡ words (drop i bs)
@@ -43,15 +43,6 @@ pub lines_end : (bs : List ℕ) (i : ℕ) → length bs ≤ i → 0 < length bs 
 unfolding lines_after
 lines_end [] i h p = absurd (omega arith)
 lines_end (b ∷ bs) i h p = rw (take_all i (b ∷ bs) h, drop_all i (b ∷ bs) h)
-
-feeds_append : (xs ys : List ℕ) → feeds (xs ++ ys) ≡ feeds xs + feeds ys
-unfolding feeds
-feeds_append [] ys = omega arith
-feeds_append (x ∷ xs) ys = let h = feeds_append xs ys in omega arith
-
-pub feeds_more : (bs : List ℕ) (i : ℕ) → i < length bs → feeds (take (i + 1) bs) ≡ feeds (take i bs) + cond (eqb (get_or bs i 0) 10) 1 0
-unfolding feeds
-feeds_more bs i h = rw (take_more bs i 0 h) (feeds_append (take i bs) (get_or bs i 0 ∷ []) ∙ omega arith)
 
 -- the word that a line without a gap in front begins with
 pub row_begun : (w : List ℕ) (ws : List (List ℕ)) → 0 < length w → begun w ws ≡ row w ws

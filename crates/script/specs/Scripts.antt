@@ -20,8 +20,9 @@ use Rattle.script.specs.declared.script.Order.TheVariants.{To, Tick, Hold, Go, K
 use Rattle.script.specs.declared.fault.Expected.TheVariants as expected
 use Rattle.script.specs.declared.fault.Fault.{Fault}
 use Rattle.script.specs.declared.fault.Fault.TheVariants as fault
-use Rattle.script.specs.Words.{words, lines, feeds}
+use Rattle.script.specs.Words.{words, lines}
 use Rattle.script.specs.Orders.{Misread, order_of, machine_of}
+use Rattle.word.specs.Lines.{feeds}
 
 pub record Unread : Type 0 where
   pub line : ℕ

@@ -6,8 +6,7 @@
 --   words bs          the words of a line: the longest runs of bytes that are no gaps
 --   lines_after l bs  the lines of the bytes bs, with l begun before them
 --   lines bs          the lines of a script; a line feed ends each, and may be left out behind the last
---   feeds bs          how many line feeds there are
-use Rattle.std.specs.Prelude.{ℕ, ◌+◌, Bool, cond, ◌||◌, List, [], ◌∷◌, ◌++◌, ◌==◌}
+use Rattle.std.specs.Prelude.{ℕ, Bool, cond, ◌||◌, List, [], ◌∷◌, ◌++◌, ◌==◌}
 
 abbrev pub gap : ℕ → Bool
 gap b = b == 32 || b == 9 || b == 13
@@ -33,7 +32,3 @@ lines_after l (b ∷ bs) = cond (b == 10) (l ∷ lines_after [] bs) (lines_after
 
 abbrev pub lines : List ℕ → List (List ℕ)
 lines bs = lines_after [] bs
-
-unfoldable pub feeds : List ℕ → ℕ
-feeds [] = 0
-feeds (b ∷ bs) = cond (b == 10) 1 0 + feeds bs

@@ -6,10 +6,11 @@ ghost use Rattle.script.specs.Refusals.{Answers, Begins, Goes, told};
 
 use crate::fault::{Expected, Fault, ScriptError, Wrong};
 use crate::order::{machine, order};
-use crate::scanner::{first_line, first_word, line_feeds};
+use crate::scanner::{first_line, first_word};
 use crate::script::{Order, Script};
 use geometry::Place;
 use std::alloc::Global;
+use word::line_feeds;
 
 // Reads a script whole, and checks its numbers.
 pub fn read(heap: Global, text: &[u8]) -> Result<Script, ScriptError<'_>>

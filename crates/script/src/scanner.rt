@@ -1,6 +1,6 @@
 // Lines end at line feeds; the words of a line are apart by spaces, tabs or carriage returns.
 ghost use Rattle.std.specs.Prelude.{◌≡◌, ℕ, ◌<◌, ◌≤◌, false, ◌∷◌, length, take, drop, slice_index};
-ghost use Rattle.script.specs.Words.{gap, words, lines, feeds, begun, row};
+ghost use Rattle.script.specs.Words.{gap, words, lines, begun, row};
 
 // The first line, and what stands behind its line feed.
 pub fn first_line(text: &[u8]) -> (&[u8], &[u8])
@@ -22,19 +22,6 @@ pub fn first_word(line: &[u8]) -> (&[u8], &[u8])
 {
     let rest = without_gap(line);
     rest.split_at(word_len(rest))
-}
-
-// How many line feeds there are.
-pub fn line_feeds(text: &[u8]) -> u64
-    ensures { result ≡ feeds text.now }
-{
-    let mut n: u64 = 0;
-    for b in text {
-        if *b == b'\n' {
-            n += 1;
-        }
-    }
-    n
 }
 
 fn is_gap(b: u8) -> bool

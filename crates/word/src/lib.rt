@@ -1,16 +1,24 @@
-// A word of a text: whether it is a given one, and the number that it writes. It knows nothing of what a text means, or
-// of how words stand apart in it.
+// A word of a text: whether it is a given one, and the number that it writes; and the lines of a text, counted. It knows
+// nothing of what a text means, or of how words stand apart in it.
 
 #![tactic(auto)]
 
 ghost use Rattle.std.specs.Prelude.{◌≡◌};
 ghost use Rattle.std.specs.Str.{bytes_eq};
+ghost use Rattle.word.specs.Lines.{feeds};
 ghost use Rattle.word.specs.Numbers.{number_of, magnitude, up, down};
 
 pub fn is(word: &[u8], name: &[u8]) -> bool
     ensures { result ≡ bytes_eq word.now name.now }
 {
     word == name
+}
+
+// How many line feeds there are.
+pub fn line_feeds(bytes: &[u8]) -> u64
+    ensures { result ≡ feeds bytes.now }
+{
+    bytes.iter().filter(|b| **b == b'\n').count() as u64
 }
 
 // A number is digits, with at most one `-` before them. However long, it is cut to the ends of i64.

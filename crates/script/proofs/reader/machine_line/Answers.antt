@@ -1,7 +1,8 @@
 use Rattle.std.proofs.Common.{ℕ, Err, sym, ap, ◌∙◌, arith}
 use Rattle.script.specs.declared.fault.Expected.TheVariants as expected
 use Rattle.script.specs.Orders.{misread}
-use Rattle.script.specs.Words.{words, feeds}
+use Rattle.script.specs.Words.{words}
+use Rattle.word.specs.Lines.{feeds}
 use Rattle.script.proofs.Steps.{script_blank, script_more, script_stop, script_end}
 use Rattle.script.proofs.reader.machine_line.Goals as goal
 

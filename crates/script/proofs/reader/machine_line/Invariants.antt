@@ -1,6 +1,7 @@
 use Rattle.std.proofs.Common.{◌≡◌, ◌+◌, ◌≤◌, length}
-use Rattle.script.specs.Words.{lines, feeds}
+use Rattle.script.specs.Words.{lines}
 use Rattle.script.specs.Scripts.{script_from, reads}
+use Rattle.word.specs.Lines.{feeds}
 use Rattle.script.proofs.reader.machine_line.Given as goal
 
 abbrev pub invariant-loop-rest : goal.invariant-loop-rest
