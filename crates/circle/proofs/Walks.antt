@@ -1,11 +1,11 @@
 -- Every walk is the closed form.
-use Rattle.std.proofs.Common.{◌≡◌, ℕ, zero, suc, ◌+◌, ◌-◌, ◌*◌, ◌%◌, ◌<◌, ◌≤◌, max, true, false, ltb, leb, ◌-ℤ◌, nat_abs, sym, refl, ap, ◌∙◌, inl, inr, arith}
+use Rattle.std.proofs.Common.{◌≡◌, ℕ, zero, suc, ◌+◌, ◌-◌, ◌*◌, ◌%◌, ◌<◌, ◌≤◌, true, false, ℤ, ◌-ℤ◌, nat_abs, sym, refl, ap, ◌∙◌, inl, inr, arith}
 use native.Mathlib.Nat.{div-zero, zero-div, zero-mod}
 use Rattle.std.proofs.lemmas.Int.{ints}
 use Rattle.std.proofs.lemmas.Bool.{cases_lt}
 use Rattle.std.proofs.lemmas.Bool.Decides.{nat_tests}
 use Rattle.geometry.specs.declared.place.Place.{Place}
-use Rattle.circle.specs.Circles.{root, nearest_root, quarter, best, at, corner, turns, after, square, reach, on, index}
+use Rattle.circle.specs.Circles.{root, nearest_root, quarter, best, at, corner, turns, after, reach, on, index}
 use Rattle.circle.specs.Laws.{On, Walk, first, CircleLaws}
 use Rattle.circle.proofs.Roots.{nearest_rooted}
 use Rattle.circle.proofs.Rows.{apart, quarter_rooted, best_none}
@@ -55,21 +55,21 @@ reaches R p h =
     ]
 
 module _ (R : ℕ) (p : 0 < R) where
-  pub steps_x : (n u : ℕ) → nat_abs ((after R (n + u)).x -ℤ (after R n).x) ≤ u
-  steps_x n zero = let e : n + 0 ≡ n = omega arith in rw e (omega (arith, ints))
-  steps_x n (suc u) =
+  -- steps of at most one on an axis come to at most so many
+  steps_on : (axis : Place → ℤ) → ((k : ℕ) → nat_abs (axis (after R (suc k)) -ℤ axis (after R k)) ≤ 1) →
+      (n u : ℕ) → nat_abs (axis (after R (n + u)) -ℤ axis (after R n)) ≤ u
+  steps_on axis one n zero = let e : n + 0 ≡ n = omega arith in rw e (omega (arith, ints))
+  steps_on axis one n (suc u) =
       let e : n + suc u ≡ suc (n + u) = omega arith in
-      let h : nat_abs ((after R (n + u)).x -ℤ (after R n).x) ≤ u = steps_x n u in
-      let s = (left R p (n + u)).step.across in
+      let h : nat_abs (axis (after R (n + u)) -ℤ axis (after R n)) ≤ u = steps_on axis one n u in
+      let s : nat_abs (axis (after R (suc (n + u))) -ℤ axis (after R (n + u))) ≤ 1 = one (n + u) in
       rw e (omega (arith, ints))
 
+  pub steps_x : (n u : ℕ) → nat_abs ((after R (n + u)).x -ℤ (after R n).x) ≤ u
+  steps_x = steps_on (λ q. q.x) (λ k. (left R p k).step.across)
+
   pub steps_y : (n u : ℕ) → nat_abs ((after R (n + u)).y -ℤ (after R n).y) ≤ u
-  steps_y n zero = let e : n + 0 ≡ n = omega arith in rw e (omega (arith, ints))
-  steps_y n (suc u) =
-      let e : n + suc u ≡ suc (n + u) = omega arith in
-      let h : nat_abs ((after R (n + u)).y -ℤ (after R n).y) ≤ u = steps_y n u in
-      let s = (left R p (n + u)).step.along in
-      rw e (omega (arith, ints))
+  steps_y = steps_on (λ q. q.y) (λ k. (left R p k).step.along)
 
   walks_left : (w : ℕ → Place) → Walk false R w → (n : ℕ) → w 0 ≡ after R n → (k : ℕ) → w k ≡ after R (n + k)
   walks_left w h n e zero = e ∙ ap (after R) (omega arith)

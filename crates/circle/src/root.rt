@@ -1,6 +1,6 @@
 // Square roots of whole numbers, by Newton's way: from above, each guess the mean of the last one and what it divides
-// the number into, until it falls no more.
-// The library's isqrt bisects: some 97 ns for a root, where this takes 30 to 55 and a whole tick of the control less than 20.
+// the number into, until it falls no more. The library's isqrt bisects and takes some 97 ns, where this takes 30 to 55
+// and a whole tick of the control less than 20.
 ghost use Rattle.std.specs.Prelude.{◌≡◌, ◌≤◌};
 ghost use Rattle.circle.specs.Circles.{root, nearest_root};
 
