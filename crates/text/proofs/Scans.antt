@@ -1,5 +1,5 @@
 -- How words are taken from the front of a text: gaps first, and then a word. Assumes nothing.
-use Rattle.std.proofs.Common.{◌≡◌, ℕ, zero, suc, ◌+◌, ◌<◌, false, cond, eqb, List, [], ◌∷◌, ◌++◌, length, take, drop, sym, refl, ap, ◌∙◌, subst, inl, inr, arith, add-zero, append_assoc, append-nil}
+use Rattle.std.proofs.Common.{◌≡◌, ℕ, ◌+◌, ◌<◌, false, cond, eqb, List, [], ◌∷◌, ◌++◌, length, take, drop, sym, refl, ap, ◌∙◌, subst, inl, inr, arith, append_assoc, append-nil}
 use Rattle.std.proofs.Math.Numerals.{one-add}
 use Rattle.std.proofs.Math.Seq.{take-add}
 use Rattle.std.proofs.lemmas.List.{drop-drop}
@@ -8,7 +8,7 @@ use Rattle.std.proofs.lemmas.List.Sums.{sum_by-append, sum_by-cons}
 use Rattle.std.specs.List.{prefix_len}
 use Rattle.text.specs.declared.scanner.Kind.{Kind}
 use Rattle.text.specs.declared.scanner.Kind.TheVariants.{Gap, Mark, Letter}
-use Rattle.text.specs.Words.{kind, is_kind, Found, found, flush, by_kind, word_len, scan, scan_from}
+use Rattle.text.specs.Words.{kind, is_kind, found, word_len, scan, scan_from}
 use Rattle.word.specs.Lines.{feeds}
 
 abbrev pub run : Kind → List ℕ → ℕ

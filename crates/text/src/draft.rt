@@ -115,9 +115,7 @@ impl Draft {
     pub fn close(&mut self) -> Result<Phase, Failed<Misplaced>>
         ensures { Stepped (closed (held_of self.old).blocks (held_of self.old)) result (held_of self.old) (held_of self.new) }
     {
-        let Some(opened) = self.blocks.pop() else {
-            return Err(Failed::Refused(Misplaced));
-        };
+        let opened = self.blocks.pop().ok_or(Misplaced)?;
         let body = self.body()?;
         self.last = opened.before;
         self.end_block(opened.head, body)?;
@@ -131,7 +129,9 @@ impl Draft {
         let name = count(name) as usize;
         match self.subs.get(name) {
             Some(body) => Ok(Phase::UseEnd(*body)),
-            None if name == self.subs.len() && self.is_fresh() => Ok(Phase::Brace(Head::SubProgram)),
+            None if name == self.subs.len() && self.is_fresh() => {
+                Ok(Phase::Brace(Head::SubProgram))
+            }
             None => Err(Failed::Refused(Misplaced)),
         }
     }
@@ -157,19 +157,13 @@ impl Draft {
     pub fn finish(mut self, phase: Phase) -> Result<Vec<i64>, Failed<Misplaced>>
         ensures { Finished (at_end phase (held_of self)) result }
     {
-        let Phase::Line = phase else {
-            return Err(Failed::Refused(Misplaced));
-        };
-        if !self.is_outside() {
-            return Err(Failed::Refused(Misplaced));
+        match phase {
+            Phase::Line if self.is_outside() => {
+                self.body()?;
+                let Draft { nodes, .. } = self;
+                Ok(nodes)
+            }
+            _ => Err(Failed::Refused(Misplaced)),
         }
-        self.body()?;
-        let Draft {
-            nodes,
-            last: _,
-            blocks: _,
-            subs: _,
-        } = self;
-        Ok(nodes)
     }
 }

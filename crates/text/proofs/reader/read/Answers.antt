@@ -1,10 +1,8 @@
-use Rattle.std.proofs.Common.{◌≡◌, ℕ, List, ◌∷◌, Some, Err, sym, ap, ◌∙◌, subst}
+use Rattle.std.proofs.Common.{◌≡◌, ℕ, List, ◌∷◌, Err, sym, ap, ◌∙◌, subst}
 use Rattle.text.specs.declared.error.Expected.{Expected}
 use Rattle.text.specs.declared.phase.Phase.{Phase}
 use Rattle.text.specs.declared.token.Token.{Token}
-use Rattle.text.specs.declared.words.Word.{Word}
-use Rattle.text.specs.declared.words.Words.{Words}
-use Rattle.text.specs.Words.{Found, token_of}
+use Rattle.text.specs.Words.{Found}
 use Rattle.text.specs.Reading.{Held, held_of, step, at_end, expected_of, unreadable, end_of, read, error_of}
 use Rattle.text.specs.Taking.{found_at, left}
 use Rattle.text.proofs.Taken.{word_taken, word_refused, end_taken, end_refused, end_placed, fault_told, end_told}

@@ -7,13 +7,13 @@ pub returns-in-mirror : goal.returns-in-mirror
 returns-in-mirror c =
     let w : List ℕ = c.args.word.now in
     let e : w ≡ 109 ∷ 105 ∷ 114 ∷ 114 ∷ 111 ∷ 114 ∷ [] =
-        cc (
-          drop_more w 0 0 (omega arith),
-          drop_more w 1 0 (omega arith),
-          drop_more w 2 0 (omega arith),
-          drop_more w 3 0 (omega arith),
-          drop_more w 4 0 (omega arith),
-          drop_more w 5 0 (omega arith),
-          drop_all 6 w (omega arith),
-        ) in
+    cc (
+      drop_more w 0 0 (omega arith),
+      drop_more w 1 0 (omega arith),
+      drop_more w 2 0 (omega arith),
+      drop_more w 3 0 (omega arith),
+      drop_more w 4 0 (omega arith),
+      drop_more w 5 0 (omega arith),
+      drop_all 6 w (omega arith),
+    ) in
     rw e
