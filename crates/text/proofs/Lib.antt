@@ -1,5 +1,4 @@
 mod Drafts
 pub mod Rows
 mod Scans
-mod Stacks
 mod Taken

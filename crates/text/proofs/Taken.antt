@@ -1,40 +1,44 @@
 -- A word at a time: what is left to read after a word is taken, and where it can't be. Assumes nothing.
-use Rattle.std.proofs.Common.{◌≡◌, ℕ, ◌-◌, ◌<◌, ◌≤◌, List, length, ℤ, Some, None, Ok, Err, Option, Result, sym, subst, arith}
-use Rattle.std.specs.List.{between}
-use Rattle.std.proofs.lemmas.List.Edits.{length-between}
-use Rattle.std.proofs.lemmas.List.{drop_all, take_all}
-use Rattle.text.specs.declared.error.Fault.{Fault}
-use Rattle.text.specs.declared.error.Fault.TheVariants as fault
-use Rattle.text.specs.declared.error.ReadError.{ReadError}
+use Rattle.std.proofs.Common.{◌≡◌, ℕ, List, [], ◌∷◌, length, ℤ, Some, None, Ok, Err, Option, Result, ◌+◌, take, sym, subst, add-zero, arith}
+use Rattle.std.proofs.Math.Nat.{sub-zero}
+use Rattle.word.specs.Lines.{feeds}
+use Rattle.std.proofs.lemmas.List.{take_all}
+use Rattle.refusal.specs.declared.failed.Failed.{Failed}
+use Rattle.refusal.specs.declared.failed.Failed.TheVariants.{Refused, Memory}
+use Rattle.text.specs.declared.error.Expected.{Expected}
+use Rattle.text.specs.declared.error.Misplaced.{Misplaced}
 use Rattle.text.specs.declared.error.Unreadable.{Unreadable}
 use Rattle.text.specs.declared.phase.Phase.{Phase}
-use Rattle.text.specs.Words.{token_of, scan, scan_from, Runs}
-use Rattle.text.specs.Reading.{Held, step, at_end, expected_of, unreadable_at, reads, end_of, Next, Stepped, Finished, Answers, error_of}
+use Rattle.text.specs.Words.{Found, found}
+use Rattle.text.specs.Reading.{Held, step, at_end, expected_of, unreadable, reads, Next, Stepped, Finished, Answers, error_of, end_of}
 
-found_start : (text : List ℕ) (i j : ℕ) → i < j → j ≤ length text → j - length (between i j text) ≡ i
-found_start text i j h k = omega (arith, length-between text i j k)
-
-pub word_taken : (text : List ℕ) (i j : ℕ) (p q : Phase) (h k : Held) → Runs text i j → step (token_of (between i j text)) p h ≡ Some (q, k) → reads q k (scan_from text j) (end_of text) ≡ reads p h (scan_from text i) (end_of text)
+-- the first of the words that are left is taken, or can't be
+pub word_taken : (ws vs : List Found) (w end : Found) (p q : Phase) (h k : Held) → ws ≡ w ∷ vs → step w.token p h ≡ Some (q, k) → reads q k vs end ≡ reads p h ws end
 unfolding reads
-word_taken text i j p q h k r s = rw (r, s)
+word_taken ws vs w end p q h k e s = rw (e, s)
 
-pub word_refused : (text : List ℕ) (i j : ℕ) (p : Phase) (h : Held) → i < j → j ≤ length text → Runs text i j → step (token_of (between i j text)) p h ≡ None → reads p h (scan_from text i) (end_of text) ≡ Err (unreadable_at text i j (expected_of p h))
+pub word_refused : (ws vs : List Found) (w end : Found) (p : Phase) (h : Held) → ws ≡ w ∷ vs → step w.token p h ≡ None → reads p h ws end ≡ Err (unreadable w (expected_of p h))
 unfolding reads
-word_refused text i j p h lt le r s = rw (r, s, found_start text i j lt le)
+word_refused ws vs w end p h e s = rw (e, s)
 
-pub end_taken : (text : List ℕ) (i : ℕ) (p : Phase) (h : Held) (ns : List ℤ) → length text ≤ i → at_end p h ≡ Some ns → reads p h (scan_from text i) (end_of text) ≡ Ok ns
-unfolding reads scan
-end_taken text i p h ns le s = rw (drop_all i text le, s)
+-- no word is left
+pub end_taken : (ws : List Found) (end : Found) (p : Phase) (h : Held) (ns : List ℤ) → ws ≡ [] → at_end p h ≡ Some ns → reads p h ws end ≡ Ok ns
+unfolding reads
+end_taken ws end p h ns e s = rw (e, s)
 
-pub end_refused : (text : List ℕ) (i : ℕ) (p : Phase) (h : Held) → length text ≤ i → at_end p h ≡ None → reads p h (scan_from text i) (end_of text) ≡ Err (unreadable_at text (length text) (length text) (expected_of p h))
-unfolding reads scan
-end_refused text i p h le s = rw (drop_all i text le, s, take_all (length text) text (omega arith))
+pub end_refused : (ws : List Found) (end : Found) (p : Phase) (h : Held) → ws ≡ [] → at_end p h ≡ None → reads p h ws end ≡ Err (unreadable end (expected_of p h))
+unfolding reads
+end_refused ws end p h e s = rw (e, s)
 
 -- a fault at a word, and at the end
-pub fault_told : (x : Result (List ℤ) Unreadable) (f : Fault) (next : Next) (h k : Held) (u : Unreadable) (e : ReadError) → e ≡ error_of f u → Stepped next (Err f) h k → (next ≡ None → k ≡ h → x ≡ Err u) → Answers x (Err e)
-fault_told x fault.Word next h k u e is s g = subst (λ (r : ReadError). Answers x (Err r)) (sym is) (g s.0 s.1)
-fault_told x fault.Memory next h k u e is s g = subst (λ (r : ReadError). Answers x (Err r)) (sym is) tt
+pub fault_told : (x : Result (List ℤ) Unreadable) (f : Failed Misplaced) (next : Next) (h k : Held) (u : Unreadable) (e : Failed Unreadable) → e ≡ error_of f u → Stepped next (Err f) h k → (next ≡ None → k ≡ h → x ≡ Err u) → Answers x (Err e)
+fault_told x (Refused m) next h k u e is s g = subst (λ (r : Failed Unreadable). Answers x (Err r)) (sym is) (g s.0 s.1)
+fault_told x Memory next h k u e is s g = subst (λ (r : Failed Unreadable). Answers x (Err r)) (sym is) tt
 
-pub end_told : (x : Result (List ℤ) Unreadable) (f : Fault) (end : Option (List ℤ)) (u : Unreadable) (e : ReadError) → e ≡ error_of f u → Finished end (Err f) → (end ≡ None → x ≡ Err u) → Answers x (Err e)
-end_told x fault.Word end u e is s g = subst (λ (r : ReadError). Answers x (Err r)) (sym is) (g s)
-end_told x fault.Memory end u e is s g = subst (λ (r : ReadError). Answers x (Err r)) (sym is) tt
+pub end_told : (x : Result (List ℤ) Unreadable) (f : Failed Misplaced) (end : Option (List ℤ)) (u : Unreadable) (e : Failed Unreadable) → e ≡ error_of f u → Finished end (Err f) → (end ≡ None → x ≡ Err u) → Answers x (Err e)
+end_told x (Refused m) end u e is s g = subst (λ (r : Failed Unreadable). Answers x (Err r)) (sym is) (g s)
+end_told x Memory end u e is s g = subst (λ (r : Failed Unreadable). Answers x (Err r)) (sym is) tt
+
+-- the end of a text is found as a word without bytes would be
+pub end_placed : (text : List ℕ) (e : Expected) → unreadable (found [] (feeds (take (length text) text)) (length text + 0)) e ≡ unreadable (end_of text) e
+end_placed text e = rw (take_all (length text) text (omega arith), add-zero, sub-zero)

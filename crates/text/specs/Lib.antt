@@ -1,4 +1,5 @@
 pub mod Nodes
 pub mod Reading
+pub mod Taking
 pub mod Tokens
 pub mod Words

@@ -4,7 +4,10 @@
 --   with_line             a line's node put behind the lines before it
 --   body_of, body_nodes   the node of all lines of a block, where there are none a node of kind 0, and the nodes then
 --   block_node            the node of a block, around the node of its lines
+--   numbers_of            the four numbers of a node in code
 use Rattle.std.specs.Prelude.{◌/◌, List, [], ◌∷◌, ◌++◌, length, ℤ, pos, Some, None, Option}
+use Rattle.text.specs.declared.node.Node.{Node}
+use Rattle.text.specs.declared.node.Node.TheVariants.{Nothing, Go, Next, Lines, Use}
 use Rattle.text.specs.declared.phase.Block.{Block}
 use Rattle.text.specs.declared.phase.Block.TheVariants.{Repeat, Offset, Turned, Mirrored}
 use Rattle.text.specs.declared.phase.Move.{Move}
@@ -54,3 +57,10 @@ block_node (Repeat n) body = node (pos 4) n body (pos 0)
 block_node (Offset x y) body = node (pos 5) x y body
 block_node Turned body = node (pos 6) body (pos 0) (pos 0)
 block_node Mirrored body = node (pos 7) body (pos 0) (pos 0)
+
+abbrev pub numbers_of : Node → List ℤ
+numbers_of Nothing = node (pos 0) (pos 0) (pos 0) (pos 0)
+numbers_of (Go m x y speed) = node (move_kind m) x y speed
+numbers_of (Next so_far this) = node (pos 3) so_far this (pos 0)
+numbers_of (Lines b body) = block_node b body
+numbers_of (Use body) = node (pos 8) body (pos 0) (pos 0)

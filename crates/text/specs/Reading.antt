@@ -1,6 +1,7 @@
 -- What the contracts of reading cite: the words of a text, taken one by one. Assumes nothing.
 --   Held                   what is read so far: the nodes, the node of the lines of this block, the open blocks, innermost
 --                          first, and the node of each sub-program's body; held_of says it of a draft
+--   added                  numbers come behind the nodes
 --   put_line, begun        a line's node is put behind the lines before it; a block is opened
 --   closed                 a `}`: the innermost block's line is put
 --   named k                behind `sub` k: the use of a sub-program that is told, or the next one's `{`
@@ -13,14 +14,14 @@ use Rattle.std.specs.Prelude.{◌≡◌, ℕ, Bool, true, false, cond, not, ◌&
 use Rattle.std.specs.Option.{ok_or}
 use Rattle.std.specs.declared.alloc.Global.{Global}
 use Rattle.count.specs.Counts.{size}
+use Rattle.refusal.specs.declared.failed.Failed.{Failed}
+use Rattle.refusal.specs.declared.failed.Failed.TheVariants.{Refused, Memory}
+use Rattle.word.specs.Lines.{feeds}
 use Rattle.text.specs.declared.draft.Draft.{Draft}
 use Rattle.text.specs.declared.draft.Opened.{Opened}
 use Rattle.text.specs.declared.error.Expected.{Expected}
 use Rattle.text.specs.declared.error.Expected.TheVariants as expected
-use Rattle.text.specs.declared.error.Fault.{Fault}
-use Rattle.text.specs.declared.error.Fault.TheVariants as fault
-use Rattle.text.specs.declared.error.ReadError.{ReadError}
-use Rattle.text.specs.declared.error.ReadError.TheVariants as error
+use Rattle.text.specs.declared.error.Misplaced.{Misplaced}
 use Rattle.text.specs.declared.error.Unreadable.{Unreadable}
 use Rattle.text.specs.declared.phase.Block.TheVariants.{Repeat, Offset, Turned, Mirrored}
 use Rattle.text.specs.declared.phase.Head.{Head}
@@ -34,7 +35,7 @@ use Rattle.text.specs.declared.token.Token.{Token}
 use Rattle.text.specs.declared.token.Token.TheVariants.{Number, Word, Other}
 use Rattle.text.specs.Nodes.{Laid, node, move_kind, with_line, body_of, body_nodes, block_node}
 use Rattle.text.specs.Tokens.{value_of, is_key}
-use Rattle.text.specs.Words.{Found, lines, scan}
+use Rattle.text.specs.Words.{Found, scan}
 
 pub record Held : Type 0 where
   pub laid : Laid
@@ -46,6 +47,9 @@ held_of d = record { laid = record { nodes = vec_items d.nodes; last = d.last };
 
 abbrev pub empty : Held
 empty = record { laid = record { nodes = []; last = None }; blocks = []; subs = [] }
+
+abbrev pub added : List ℤ → Held → Held
+added line h = record { laid = record { nodes = h.laid.nodes ++ line; last = h.laid.last }; blocks = h.blocks; subs = h.subs }
 
 abbrev pub put_line : List ℤ → Held → Held
 put_line line h = record { laid = with_line line h.laid; blocks = h.blocks; subs = h.subs }
@@ -155,15 +159,15 @@ expected_of (UseEnd body) h = expected.Semicolon
 expected_of (Brace b) h = expected.Open
 
 -- what a step in code answers: the phase, or why not; want of memory is one more case
-abbrev pub Stepped : Next → Result Phase Fault → (before after : Held) → Type 0
+abbrev pub Stepped : Next → Result Phase (Failed Misplaced) → (before after : Held) → Type 0
 Stepped next (Ok p) h k = next ≡ Some (p, k)
-Stepped next (Err fault.Word) h k = (next ≡ None) × (k ≡ h)
-Stepped next (Err fault.Memory) h k = Unit {0}
+Stepped next (Err (Refused e)) h k = (next ≡ None) × (k ≡ h)
+Stepped next (Err Memory) h k = Unit {0}
 
-abbrev pub Finished : Option (List ℤ) → Result (Vec ℤ Global) Fault → Type 0
+abbrev pub Finished : Option (List ℤ) → Result (Vec ℤ Global) (Failed Misplaced) → Type 0
 Finished end (Ok v) = end ≡ Some (vec_items v)
-Finished end (Err fault.Word) = end ≡ None
-Finished end (Err fault.Memory) = Unit {0}
+Finished end (Err (Refused e)) = end ≡ None
+Finished end (Err Memory) = Unit {0}
 
 abbrev pub unreadable : Found → Expected → Unreadable
 unreadable w e = record { line = w.line; start = w.start; «end» = w.stop; expected = e }
@@ -178,20 +182,20 @@ reads p h (w ∷ ws) end = follow (step w.token p h) (Err (unreadable w (expecte
 
 -- where a text ends
 abbrev pub end_of : List ℕ → Found
-end_of text = record { token = Other; line = lines text; start = length text; stop = length text }
+end_of text = record { token = Other; line = feeds text; start = length text; stop = length text }
 
 abbrev pub read : List ℕ → Result (List ℤ) Unreadable
 read text = reads Line empty (scan 0 0 [] text) (end_of text)
 
 -- what the reader in code answers; want of memory is one more case
-abbrev pub Answers : Result (List ℤ) Unreadable → Result (Vec ℤ Global) ReadError → Type 0
+abbrev pub Answers : Result (List ℤ) Unreadable → Result (Vec ℤ Global) (Failed Unreadable) → Type 0
 Answers x (Ok v) = x ≡ Ok (vec_items v)
-Answers x (Err (error.Unreadable u)) = x ≡ Err u
-Answers x (Err error.Memory) = Unit {0}
+Answers x (Err (Refused u)) = x ≡ Err u
+Answers x (Err Memory) = Unit {0}
 
 abbrev pub unreadable_at : List ℕ → ℕ → ℕ → Expected → Unreadable
-unreadable_at text i j e = record { line = lines (take i text); start = i; «end» = j; expected = e }
+unreadable_at text i j e = record { line = feeds (take i text); start = i; «end» = j; expected = e }
 
-abbrev pub error_of : Fault → Unreadable → ReadError
-error_of fault.Word u = error.Unreadable u
-error_of fault.Memory u = error.Memory
+abbrev pub error_of : Failed Misplaced → Unreadable → Failed Unreadable
+error_of (Refused e) u = Refused u
+error_of Memory u = Memory

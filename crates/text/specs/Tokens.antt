@@ -1,7 +1,9 @@
 -- What contracts say of a token: whether it is a number, or a certain word. Assumes nothing.
 --   value_of t    its number, if it is one
 --   is_key k t    whether it is the word k
+--   misplaced     a word that can't stand where it stands
 use Rattle.std.specs.Prelude.{ℕ, Bool, true, false, ℤ, Some, None, Option, ◌==◌}
+use Rattle.text.specs.declared.error.Misplaced.{Misplaced}
 use Rattle.text.specs.declared.token.Key.{Key}
 use Rattle.text.specs.declared.token.Key.TheVariants.{To, By, Fast, Times, At, Turn, Mirror, Sub, Semicolon, Open, Close}
 use Rattle.text.specs.declared.token.Token.{Token}
@@ -34,3 +36,6 @@ is_key k Other = false
 abbrev pub only : Bool → Option (Unit {0})
 only true = Some tt
 only false = None
+
+abbrev pub misplaced : Misplaced
+misplaced = record {}

@@ -1,14 +1,16 @@
 -- What the contracts of scanning cite: a text's words, and what each says. Assumes nothing.
 --   kind b               whether a byte is a gap, a mark or a letter of a word
---   lines bs             how many line feeds there are in bs
+--   is_kind k b          whether it is one of a kind
+--   word_len bs          how long the word is that bytes begin with: 0 where they begin with none
 --   token_of w           what a word says
 --   Found                a word that is found: what it says, its line, and where it starts and ends
 --   scan at line front   the words of bytes that begin at a place and a line, with a word begun before them
 --   tokens text          what a text's words say, wherever they stand
 --   scan_from text i     the words of a text from place i on
-use Rattle.std.specs.Prelude.{◌≡◌, ℕ, ◌+◌, ◌-◌, ◌<◌, cond, ◌||◌, List, [], ◌∷◌, ◌++◌, map, length, take, drop, ℤ, Some, None, codes, Option, ◌==◌, ◌≢◌, slice_index}
-use Rattle.std.specs.List.{between}
+use Rattle.std.specs.Prelude.{ℕ, ◌+◌, ◌-◌, Bool, true, false, cond, ◌||◌, List, [], ◌∷◌, ◌++◌, map, length, take, drop, ℤ, Some, None, codes, Option, ◌==◌}
+use Rattle.std.specs.List.{prefix_len}
 use Rattle.std.specs.Str.{bytes_eq}
+use Rattle.word.specs.Lines.{feeds}
 use Rattle.word.specs.Numbers.{number_of}
 use Rattle.text.specs.declared.scanner.Kind.{Kind}
 use Rattle.text.specs.declared.scanner.Kind.TheVariants.{Gap, Mark, Letter}
@@ -19,9 +21,17 @@ use Rattle.text.specs.declared.token.Token.TheVariants.{Number, Word, Other}
 abbrev pub kind : ℕ → Kind
 kind b = cond (b == 32 || b == 9 || b == 13 || b == 10) Gap (cond (b == 59 || b == 123 || b == 125) Mark Letter)
 
-unfoldable pub lines : List ℕ → ℕ
-lines [] = 0
-lines (b ∷ bs) = cond (b == 10) 1 0 + lines bs
+abbrev pub by_kind : {A : Type 0} → Kind → A → A → A → A
+by_kind Gap a b c = a
+by_kind Mark a b c = b
+by_kind Letter a b c = c
+
+abbrev pub is_kind : Kind → ℕ → Bool
+is_kind k b = by_kind (kind b) (by_kind k true false false) (by_kind k false true false) (by_kind k false false true)
+
+abbrev pub word_len : List ℕ → ℕ
+word_len [] = 0
+word_len (b ∷ bs) = by_kind (kind b) 0 1 (prefix_len (is_kind Letter) (b ∷ bs))
 
 -- the words that are no numbers
 abbrev pub key_of : List ℕ → Token
@@ -53,11 +63,6 @@ abbrev pub flush : List ℕ → ℕ → ℕ → List Found → List Found
 flush [] line at ws = ws
 flush (c ∷ cs) line at ws = found (c ∷ cs) line at ∷ ws
 
-abbrev pub by_kind : {A : Type 0} → Kind → A → A → A → A
-by_kind Gap a b c = a
-by_kind Mark a b c = b
-by_kind Letter a b c = c
-
 unfoldable pub scan : ℕ → ℕ → List ℕ → List ℕ → List Found
 scan at line front [] = flush front line at []
 scan at line front (b ∷ bs) =
@@ -71,12 +76,4 @@ abbrev pub tokens : List ℕ → List Token
 tokens text = map (λ (w : Found). w.token) (scan 0 0 [] text)
 
 abbrev pub scan_from : List ℕ → ℕ → List Found
-scan_from text i = scan i (lines (take i text)) [] (drop i text)
-
--- no gap stands at place i
-abbrev pub Gapless : List ℕ → ℕ → Type 0
-Gapless text i = i < length text → kind (slice_index text i) ≢ Gap
-
--- the word that starts at i ends at j
-abbrev pub Runs : List ℕ → ℕ → ℕ → Type 0
-Runs text i j = scan_from text i ≡ found (between i j text) (lines (take i text)) j ∷ scan_from text j
+scan_from text i = scan i (feeds (take i text)) [] (drop i text)

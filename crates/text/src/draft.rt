@@ -1,13 +1,15 @@
 // A program's nodes while its text is read: those built so far, the blocks that are open, and the sub-programs.
 ghost use Rattle.std.specs.Prelude.{◌≡◌, IfOk, OnOk};
 ghost use Rattle.count.specs.Counts.{size};
-ghost use Rattle.text.specs.Nodes.{next_node, node, body_of};
+ghost use Rattle.text.specs.Nodes.{next_node, numbers_of, body_of};
 ghost use Rattle.text.specs.Reading.{held_of, Stepped, Finished};
-ghost use Rattle.text.specs.Reading.{empty, put_line, begun, bodied, outside, fresh, ended, closed, named, expected_of, at_end};
+ghost use Rattle.text.specs.Reading.{empty, added, put_line, begun, bodied, outside, fresh, ended, closed, named, expected_of, at_end};
 
-use crate::error::{Expected, Fault};
-use crate::phase::{Block, Head, Phase};
+use crate::error::{Expected, Misplaced};
+use crate::node::Node;
+use crate::phase::{Head, Phase};
 use count::count;
+use refusal::Failed;
 use std::alloc::{AllocError, Global};
 
 // An open block, and the node of the lines before it.
@@ -40,25 +42,25 @@ impl Draft {
         }
     }
 
-    // The number that the next node has.
-    fn next_node(&self) -> i64
-        ensures { result ≡ next_node self.now.nodes.items }
+    // A node behind all others, and its number.
+    fn add(&mut self, node: Node) -> Result<i64, AllocError>
+        ensures value { IfOk result (λ n. n ≡ next_node self.old.nodes.items) }
+        ensures after { OnOk result (held_of self.new ≡ added (numbers_of node) (held_of self.old)) }
     {
-        (self.nodes.len() / 4) as i64
+        let this = (self.nodes.len() / 4) as i64;
+        self.nodes.extend_from_slice(&<[i64; 4]>::from(node))?;
+        Ok(this)
     }
 
     // A line's node, joined to the lines before it.
-    pub fn put(&mut self, kind: i64, a: i64, b: i64, c: i64) -> Result<(), AllocError>
-        ensures { OnOk result (held_of self.new ≡ put_line (node kind a b c) (held_of self.old)) }
+    pub fn put(&mut self, node: Node) -> Result<(), AllocError>
+        ensures { OnOk result (held_of self.new ≡ put_line (numbers_of node) (held_of self.old)) }
     {
-        let this = self.next_node();
-        self.nodes.extend_from_slice(&[kind, a, b, c])?;
-        let Some(so_far) = self.last else {
-            self.last = Some(this);
-            return Ok(());
+        let this = self.add(node)?;
+        self.last = match self.last {
+            Some(so_far) => Some(self.add(Node::Next(so_far, this))?),
+            None => Some(this),
         };
-        self.last = Some(self.next_node());
-        self.nodes.extend_from_slice(&[3, so_far, this, 0])?;
         Ok(())
     }
 
@@ -67,12 +69,10 @@ impl Draft {
         ensures value { IfOk result (λ n. n ≡ body_of (held_of self.old).laid) }
         ensures after { OnOk result (held_of self.new ≡ bodied (held_of self.old)) }
     {
-        if let Some(node) = self.last {
-            return Ok(node);
+        match self.last {
+            Some(node) => Ok(node),
+            None => self.add(Node::Nothing),
         }
-        let this = self.next_node();
-        self.nodes.extend_from_slice(&[0, 0, 0, 0])?;
-        Ok(this)
     }
 
     pub fn open(&mut self, head: Head) -> Result<(), AllocError>
@@ -103,10 +103,7 @@ impl Draft {
         ensures { OnOk result (held_of self.new ≡ ended head body (held_of self.old)) }
     {
         match head {
-            Head::Lines(Block::Repeat(n)) => self.put(4, n, body, 0),
-            Head::Lines(Block::Offset(x, y)) => self.put(5, x, y, body),
-            Head::Lines(Block::Turned) => self.put(6, body, 0, 0),
-            Head::Lines(Block::Mirrored) => self.put(7, body, 0, 0),
+            Head::Lines(block) => self.put(Node::Lines(block, body)),
             Head::SubProgram => {
                 self.subs.push(body)?;
                 Ok(())
@@ -115,12 +112,10 @@ impl Draft {
     }
 
     // Ends the innermost block: its line comes behind the lines before it.
-    pub fn close(&mut self) -> Result<Phase, Fault>
+    pub fn close(&mut self) -> Result<Phase, Failed<Misplaced>>
         ensures { Stepped (closed (held_of self.old).blocks (held_of self.old)) result (held_of self.old) (held_of self.new) }
     {
-        let Some(opened) = self.blocks.pop() else {
-            return Err(Fault::Word);
-        };
+        let opened = self.blocks.pop().ok_or(Misplaced)?;
         let body = self.body()?;
         self.last = opened.before;
         self.end_block(opened.head, body)?;
@@ -128,20 +123,16 @@ impl Draft {
     }
 
     // What may follow `sub` and a name: a sub-program uses only those before it.
-    pub fn name(&self, name: i64) -> Result<Phase, Fault>
+    pub fn name(&self, name: i64) -> Result<Phase, Failed<Misplaced>>
         ensures { Stepped (named (size name) (held_of self.now)) result (held_of self.now) (held_of self.now) }
     {
         let name = count(name) as usize;
-        if name < self.subs.len() {
-            return Ok(Phase::UseEnd(self.subs[name]));
-        }
-        if name > self.subs.len() {
-            return Err(Fault::Word);
-        }
-        if self.is_fresh() {
-            Ok(Phase::Brace(Head::SubProgram))
-        } else {
-            Err(Fault::Word)
+        match self.subs.get(name) {
+            Some(body) => Ok(Phase::UseEnd(*body)),
+            None if name == self.subs.len() && self.is_fresh() => {
+                Ok(Phase::Brace(Head::SubProgram))
+            }
+            None => Err(Failed::Refused(Misplaced)),
         }
     }
 
@@ -163,22 +154,16 @@ impl Draft {
     }
 
     // The whole program's nodes, where the text may end.
-    pub fn finish(mut self, phase: Phase) -> Result<Vec<i64>, Fault>
+    pub fn finish(mut self, phase: Phase) -> Result<Vec<i64>, Failed<Misplaced>>
         ensures { Finished (at_end phase (held_of self)) result }
     {
-        let Phase::Line = phase else {
-            return Err(Fault::Word);
-        };
-        if !self.is_outside() {
-            return Err(Fault::Word);
+        match phase {
+            Phase::Line if self.is_outside() => {
+                self.body()?;
+                let Draft { nodes, .. } = self;
+                Ok(nodes)
+            }
+            _ => Err(Failed::Refused(Misplaced)),
         }
-        self.body()?;
-        let Draft {
-            nodes,
-            last: _,
-            blocks: _,
-            subs: _,
-        } = self;
-        Ok(nodes)
     }
 }

@@ -1,10 +1,9 @@
 // Why a text can't be read.
 ghost use Rattle.std.specs.Prelude.{◌≡◌};
 ghost use Rattle.refusal.specs.declared.Refusal.TheVariants.{Text as refused_text};
-ghost use Rattle.text.specs.declared.error.Fault.TheVariants.{Memory};
+ghost use Rattle.refusal.specs.declared.failed.Failed.TheVariants.{Refused};
 
-use refusal::Refusal;
-use std::alloc::AllocError;
+use refusal::{Failed, Refusal};
 
 #[derive(Clone, Copy, Debug)]
 pub enum Expected {
@@ -29,31 +28,22 @@ pub struct Unreadable {
     pub expected: Expected,
 }
 
-impl Unreadable {
-    pub fn refusal(self) -> Refusal
-        ensures { result ≡ refused_text self.line }
-    {
-        Refusal::Text(self.line)
+impl From<Unreadable> for Refusal {
+    ghost from_gives = { λ e r. r ≡ refused_text e.line };
+
+    fn from(unreadable: Unreadable) -> Refusal {
+        Refusal::Text(unreadable.line)
     }
 }
 
-#[derive(Clone, Copy, Debug)]
-pub enum ReadError {
-    Unreadable(Unreadable),
-    Memory,
-}
-
-// Why a word is not taken: it can't stand there, or there is no memory for it.
+// A word that can't stand where it stands, or an end that comes too early.
 #[derive(Clone, Copy)]
-pub enum Fault {
-    Word,
-    Memory,
-}
+pub struct Misplaced;
 
-impl From<AllocError> for Fault {
-    ghost from_gives = { λ _ r. r ≡ Memory };
+impl From<Misplaced> for Failed<Misplaced> {
+    ghost from_gives = { λ e r. r ≡ Refused e };
 
-    fn from(_e: AllocError) -> Fault {
-        Fault::Memory
+    fn from(misplaced: Misplaced) -> Failed<Misplaced> {
+        Failed::Refused(misplaced)
     }
 }

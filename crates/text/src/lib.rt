@@ -12,11 +12,13 @@
 
 mod draft;
 mod error;
+mod node;
 mod phase;
 mod reader;
 mod scanner;
 mod token;
+mod words;
 
-pub use error::{Expected, ReadError, Unreadable};
+pub use error::{Expected, Unreadable};
 pub use phase::{Block, Move};
 pub use reader::read;

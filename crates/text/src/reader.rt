@@ -1,28 +1,32 @@
 // Words taken one by one, each by what may stand there.
-ghost use Rattle.std.specs.Prelude.{◌≡◌, ◌≤◌, length};
-ghost use Rattle.text.specs.Nodes.{node};
-ghost use Rattle.text.specs.Reading.{held_of, Stepped, on_line, begins, line_ends, step, read, Answers, error_of, unreadable_at};
+ghost use Rattle.std.specs.Prelude.{◌≡◌, ◌+◌, ◌≤◌, length};
+ghost use Rattle.text.specs.Nodes.{numbers_of};
+ghost use Rattle.text.specs.Reading.{held_of, Stepped, on_line, begins, line_ends, step, read, Answers, error_of, unreadable};
+ghost use Rattle.text.specs.Taking.{found_at};
 
 use crate::draft::Draft;
-use crate::error::{Expected, Fault, ReadError, Unreadable};
+use crate::error::{Expected, Misplaced, Unreadable};
+use crate::node::Node;
 use crate::phase::{Block, Head, Move, Phase};
-use crate::scanner::{lines_before, word_end, word_start};
 use crate::token::{Key, Token};
+use crate::words::{Word, Words};
+use refusal::Failed;
 use std::alloc::Global;
+use word::line_feeds;
 
 impl Draft {
     // The first word of a line, or the end of a block.
-    fn begin(&mut self, token: Token) -> Result<Phase, Fault>
+    fn begin(&mut self, token: Token) -> Result<Phase, Failed<Misplaced>>
         ensures { Stepped (on_line token (held_of self.old)) result (held_of self.old) (held_of self.new) }
     {
         match token {
             Token::Number(n) => Ok(Phase::Count(n)),
             Token::Word(key) => self.begin_with(key),
-            Token::Other => Err(Fault::Word),
+            Token::Other => Err(Failed::Refused(Misplaced)),
         }
     }
 
-    fn begin_with(&mut self, key: Key) -> Result<Phase, Fault>
+    fn begin_with(&mut self, key: Key) -> Result<Phase, Failed<Misplaced>>
         ensures { Stepped (begins key (held_of self.old)) result (held_of self.old) (held_of self.new) }
     {
         match key {
@@ -33,21 +37,21 @@ impl Draft {
             Key::Mirror => Ok(Phase::Brace(Head::Lines(Block::Mirrored))),
             Key::Sub => Ok(Phase::Name),
             Key::Close => self.close(),
-            Key::Fast | Key::Times | Key::Semicolon | Key::Open => Err(Fault::Word),
+            Key::Fast | Key::Times | Key::Semicolon | Key::Open => Err(Failed::Refused(Misplaced)),
         }
     }
 
     // The `;` of a line, whose node is then complete.
-    fn end_line(&mut self, token: Token, kind: i64, a: i64, b: i64, c: i64) -> Result<Phase, Fault>
-        ensures { Stepped (line_ends token (node kind a b c) (held_of self.old)) result (held_of self.old) (held_of self.new) }
+    fn end_line(&mut self, token: Token, node: Node) -> Result<Phase, Failed<Misplaced>>
+        ensures { Stepped (line_ends token (numbers_of node) (held_of self.old)) result (held_of self.old) (held_of self.new) }
     {
         token.expect(Key::Semicolon)?;
-        self.put(kind, a, b, c)?;
+        self.put(node)?;
         Ok(Phase::Line)
     }
 
     // What a word leads to, in a phase.
-    pub fn step(&mut self, phase: Phase, token: Token) -> Result<Phase, Fault>
+    pub fn step(&mut self, phase: Phase, token: Token) -> Result<Phase, Failed<Misplaced>>
         ensures { Stepped (step token phase (held_of self.old)) result (held_of self.old) (held_of self.new) }
     {
         match phase {
@@ -59,7 +63,7 @@ impl Draft {
                 Ok(Phase::MoveSpeed(m, x, y))
             }
             Phase::MoveSpeed(m, x, y) => Ok(Phase::MoveEnd(m, x, y, token.number()?)),
-            Phase::MoveEnd(m, x, y, speed) => self.end_line(token, m.kind(), x, y, speed),
+            Phase::MoveEnd(m, x, y, speed) => self.end_line(token, Node::Go(m, x, y, speed)),
             Phase::Count(n) => {
                 token.expect(Key::Times)?;
                 Ok(Phase::Brace(Head::Lines(Block::Repeat(n))))
@@ -67,7 +71,7 @@ impl Draft {
             Phase::OffsetX => Ok(Phase::OffsetY(token.number()?)),
             Phase::OffsetY(x) => Ok(Phase::Brace(Head::Lines(Block::Offset(x, token.number()?)))),
             Phase::Name => self.name(token.number()?),
-            Phase::UseEnd(body) => self.end_line(token, 8, body, 0, 0),
+            Phase::UseEnd(body) => self.end_line(token, Node::Use(body)),
             Phase::Brace(head) => {
                 token.expect(Key::Open)?;
                 self.open(head)?;
@@ -78,39 +82,45 @@ impl Draft {
 }
 
 // The nodes of a program's text, or the first word that can't stand where it stands.
-pub fn read(heap: Global, text: &[u8]) -> Result<Vec<i64>, ReadError>
+pub fn read(heap: Global, text: &[u8]) -> Result<Vec<i64>, Failed<Unreadable>>
     ensures { Answers (read text.now) result }
 {
     let mut draft = Draft::new(heap);
     let mut phase = Phase::Line;
-    let mut start = word_start(text, 0);
-    while start < text.len() {
-        let end = word_end(text, start);
-        match draft.step(phase, Token::of(&text[start..end])) {
+    for word in Words::new(text) {
+        match draft.step(phase, Token::from(word.bytes)) {
             Ok(next) => phase = next,
-            Err(fault) => return Err(error(fault, text, start, end, draft.expected(phase))),
+            Err(fault) => return Err(placed(fault, text, word, draft.expected(phase))),
         }
-        start = word_start(text, end);
     }
     let expected = draft.expected(phase);
+    let end = Word {
+        start: text.len(),
+        bytes: b"",
+    };
     match draft.finish(phase) {
         Ok(nodes) => Ok(nodes),
-        Err(fault) => Err(error(fault, text, text.len(), text.len(), expected)),
+        Err(fault) => Err(placed(fault, text, end, expected)),
     }
 }
 
 // The line is counted only where it is told.
-fn error(fault: Fault, text: &[u8], start: usize, end: usize, expected: Expected) -> ReadError
-    requires { start ≤ length text.now }
-    ensures { result ≡ error_of fault (unreadable_at text.now start end expected) }
+fn placed(
+    fault: Failed<Misplaced>,
+    text: &[u8],
+    word: Word,
+    expected: Expected,
+) -> Failed<Unreadable>
+    requires { word.start + length word.bytes.now ≤ length text.now }
+    ensures { result ≡ error_of fault (unreadable (found_at text.now word.entry) expected) }
 {
     match fault {
-        Fault::Word => ReadError::Unreadable(Unreadable {
-            line: lines_before(text, start),
-            start,
-            end,
+        Failed::Refused(Misplaced) => Failed::Refused(Unreadable {
+            line: line_feeds(&text[..word.start]),
+            start: word.start,
+            end: word.start + word.bytes.len(),
             expected,
         }),
-        Fault::Memory => ReadError::Memory,
+        Failed::Memory => Failed::Memory,
     }
 }

@@ -1,9 +1,10 @@
-// Where words begin and end in the text.
+// How the bytes of a text make words.
 //
 // Words are the longest runs of bytes that are neither a gap (space, tab, CR, LF) nor a mark; each mark (`;` `{` `}`)
 // is a word by itself. Any other byte belongs to a word.
-ghost use Rattle.std.specs.Prelude.{◌≡◌, ℕ, ◌<◌, ◌≤◌, length, take};
-ghost use Rattle.text.specs.Words.{kind, scan_from, Gapless, Runs, lines};
+ghost use Rattle.std.specs.Prelude.{◌≡◌, ◌≤◌, length};
+ghost use Rattle.std.specs.List.{prefix_len};
+ghost use Rattle.text.specs.Words.{kind, is_kind, word_len};
 
 #[derive(Clone, Copy, PartialEq, Eq)]
 pub enum Kind {
@@ -12,7 +13,7 @@ pub enum Kind {
     Letter,
 }
 
-fn kind_of(b: u8) -> Kind
+pub fn kind_of(b: u8) -> Kind
     ensures { result ≡ kind b }
 {
     match b {
@@ -22,48 +23,21 @@ fn kind_of(b: u8) -> Kind
     }
 }
 
-// Where the next word begins, or the end of the text.
-pub fn word_start(text: &[u8], from: usize) -> usize
-    requires { from ≤ length text.now }
+// How many bytes of a kind a text begins with.
+pub fn run_of(kind: Kind, text: &[u8]) -> usize
+    ensures value { result ≡ prefix_len (is_kind kind) text.now }
     ensures within { result ≤ length text.now }
-    ensures forward { from ≤ result }
-    ensures same { scan_from text.now result ≡ scan_from text.now from }
-    ensures stops { Gapless text.now result }
 {
-    let mut at = from;
-    while at < text.len() && kind_of(text[at]) == Kind::Gap {
-        at += 1;
-    }
-    at
+    text.iter().take_while(|b| kind_of(**b) == kind).count()
 }
 
-// Where the word that begins at `start` ends.
-pub fn word_end(text: &[u8], start: usize) -> usize
-    requires { (start < length text.now) × (Gapless text.now start) }
+// How long the word is that a text begins with: 0 where it begins with none.
+pub fn word_len(text: &[u8]) -> usize
+    ensures value { result ≡ word_len text.now }
     ensures within { result ≤ length text.now }
-    ensures forward { start < result }
-    ensures word { Runs text.now start result }
 {
-    let mut at = start + 1;
-    if kind_of(text[start]) == Kind::Mark {
-        return at;
+    match text {
+        [b, ..] if kind_of(*b) == Kind::Mark => 1,
+        _ => run_of(Kind::Letter, text),
     }
-    while at < text.len() && kind_of(text[at]) == Kind::Letter {
-        at += 1;
-    }
-    at
-}
-
-// How many line feeds stand before `end`.
-pub fn lines_before(text: &[u8], end: usize) -> u64
-    requires { end ≤ length text.now }
-    ensures { result ≡ lines (take end text.now) }
-{
-    let mut n: u64 = 0;
-    for b in &text[0..end] {
-        if *b == b'\n' {
-            n += 1;
-        }
-    }
-    n
 }

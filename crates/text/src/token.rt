@@ -1,12 +1,11 @@
 // A word of the text, and what it says.
 ghost use Rattle.std.specs.Prelude.{◌≡◌};
 ghost use Rattle.std.specs.Option.{ok_or};
-ghost use Rattle.text.specs.declared.error.Fault.TheVariants.{Word as fault_word};
-ghost use Rattle.text.specs.Tokens.{value_of, is_key, only};
+ghost use Rattle.text.specs.Tokens.{value_of, is_key, only, misplaced};
 ghost use Rattle.text.specs.Words.{key_of, token_of};
 
-use crate::error::Fault;
-use word::{is, number};
+use crate::error::Misplaced;
+use word::number;
 
 #[derive(Clone, Copy, PartialEq, Eq)]
 pub enum Key {
@@ -30,74 +29,56 @@ pub enum Token {
     Other,
 }
 
-impl Token {
+impl From<&[u8]> for Token {
+    ghost from_gives = { λ word t. t ≡ token_of word.now };
+
     // What a word says.
-    pub fn of(word: &[u8]) -> Token
-        ensures { result ≡ token_of word.now }
-    {
+    fn from(word: &[u8]) -> Token {
         match number(word) {
             Some(n) => Token::Number(n),
             None => Token::of_no_number(word),
         }
     }
+}
 
+impl Token {
     fn of_no_number(word: &[u8]) -> Token
         ensures { result ≡ key_of word.now }
     {
-        if is(word, b";") {
-            return Token::Word(Key::Semicolon);
+        match word {
+            b"to" => Token::Word(Key::To),
+            b"by" => Token::Word(Key::By),
+            b"fast" => Token::Word(Key::Fast),
+            b"times" => Token::Word(Key::Times),
+            b"at" => Token::Word(Key::At),
+            b"turn" => Token::Word(Key::Turn),
+            b"mirror" => Token::Word(Key::Mirror),
+            b"sub" => Token::Word(Key::Sub),
+            b";" => Token::Word(Key::Semicolon),
+            b"{" => Token::Word(Key::Open),
+            b"}" => Token::Word(Key::Close),
+            _ => Token::Other,
         }
-        if is(word, b"{") {
-            return Token::Word(Key::Open);
-        }
-        if is(word, b"}") {
-            return Token::Word(Key::Close);
-        }
-        if is(word, b"fast") {
-            return Token::Word(Key::Fast);
-        }
-        if is(word, b"to") {
-            return Token::Word(Key::To);
-        }
-        if is(word, b"by") {
-            return Token::Word(Key::By);
-        }
-        if is(word, b"times") {
-            return Token::Word(Key::Times);
-        }
-        if is(word, b"at") {
-            return Token::Word(Key::At);
-        }
-        if is(word, b"turn") {
-            return Token::Word(Key::Turn);
-        }
-        if is(word, b"mirror") {
-            return Token::Word(Key::Mirror);
-        }
-        if is(word, b"sub") {
-            return Token::Word(Key::Sub);
-        }
-        Token::Other
     }
 
     // Its number.
-    pub fn number(self) -> Result<i64, Fault>
-        ensures { result ≡ ok_or (value_of self) fault_word }
+    pub fn number(self) -> Result<i64, Misplaced>
+        ensures { result ≡ ok_or (value_of self) misplaced }
     {
         match self {
             Token::Number(n) => Ok(n),
-            _ => Err(Fault::Word),
+            _ => Err(Misplaced),
         }
     }
 
     // Only this word.
-    pub fn expect(self, key: Key) -> Result<(), Fault>
-        ensures { result ≡ ok_or (only (is_key key self)) fault_word }
+    pub fn expect(self, key: Key) -> Result<(), Misplaced>
+        ensures { result ≡ ok_or (only (is_key key self)) misplaced }
     {
         if self == Token::Word(key) {
             Ok(())
         } else {
-            Err(Fault::Word)
+            Err(Misplaced)
         }
     }
 }

@@ -1,10 +1,10 @@
-use Rattle.std.proofs.Common.{◌≡◌, ◌-◌, ◌≤◌, length}
-use Rattle.text.specs.Words.{scan_from, Gapless}
+use Rattle.std.proofs.Common.{◌≡◌}
 use Rattle.text.specs.Reading.{held_of, reads, end_of, read}
+use Rattle.text.specs.Taking.{left}
 use Rattle.text.proofs.reader.read.Given as goal
 
-abbrev pub invariant-loop-start : goal.invariant-loop-start
-invariant-loop-start l = (l.start ≤ length l.text) × Gapless l.text l.start × (reads l.phase (held_of l.draft) (scan_from l.text l.start) (end_of l.text) ≡ read l.text)
-
-abbrev pub decreases-loop-start : goal.decreases-loop-start
-decreases-loop-start l = length l.text - l.start
+abbrev pub invariant-loop-word : goal.invariant-loop-word
+invariant-loop-word l = record {
+  said : reads l.phase (held_of l.draft) (left l.word-iterator) (end_of l.text) ≡ read l.text;
+  same : l.word-iterator.text.now ≡ l.text;
+}
