@@ -1,54 +1,40 @@
 -- Adding up pulses tick by tick.
-use Rattle.std.proofs.Common.{◌≡◌, ℕ, suc, ◌≤◌, List, ℤ, ◌+ℤ◌, ◌-ℤ◌, nat_abs, vec_items, sym, refl, ap, ◌∙◌, arith, w64, SFits}
+use Rattle.std.proofs.Common.{◌≡◌, ℕ, suc, List, ℤ, ◌+ℤ◌, ◌-ℤ◌, vec_items, sym, arith}
 use Rattle.std.proofs.lemmas.Int.{ints}
 use Rattle.geometry.specs.declared.place.Place.{Place}
+use Rattle.geometry.specs.Places.{Within}
 use Rattle.geometry.proofs.Acts.{same_place}
 use Rattle.program.specs.declared.target.Target.{Target}
 use Rattle.work.specs.declared.machine.Machine.{Machine}
 use Rattle.work.specs.declared.work.Work.{Work}
 use Rattle.work.specs.declared.event.Event.TheVariants.{Tick}
 use Rattle.work.specs.Works.{happens, place, row, ticks}
+use Rattle.work.proofs.Arrival.{tick_first}
+use Rattle.control.specs.Controls.{Happened}
 use Rattle.control.specs.declared.control.Control.{Control}
 use Rattle.control.proofs.States.{place_near, lands_near}
 use Rattle.pulses.specs.declared.Pulses.{Pulses}
-use Rattle.pulses.specs.Motors.{pulses}
+use Rattle.pulses.specs.Motors.{between, onto, pulses}
 
--- what holds between two ticks, after k of them
-pub record Gone (m : Machine) (ts : List Target) (w : Work) (k : ℕ) (v : Work) (p : Place) : Type 0 where
-  pub work : v ≡ row m ts (ticks k) w
-  pub stands : p ≡ place ts v.motion
+added : (a b : ℤ) → a +ℤ (b -ℤ a) ≡ b
+added a b = omega (arith, ints)
 
-pub none : (m : Machine) (ts : List Target) (w : Work) (p : Place) → p ≡ place ts w.motion → Gone m ts w 0 w p
-unfolding row ticks
-none m ts w p e = record { work = refl; stands = e }
+-- the pulses from a place to another bring it there
+arrives : (p q : Place) → onto p (between p q) ≡ q
+arrives p q = same_place (added p.x q.x) (added p.y q.y)
 
-added : (a b d : ℤ) → d ≡ b -ℤ a → a +ℤ d ≡ b
-added a b d e = omega (arith, ints)
+-- a tick's pulses bring a control from where it is to where the tick leads
+pub lands : (m m' : Machine) (ts ts' : List Target) (w u : Work) (p : Place) (d : Pulses)
+    → Happened m ts w Tick m' ts' u → d ≡ pulses m ts Tick w → p ≡ place ts w.motion → onto p d ≡ place ts' u.motion
+lands m m' ts ts' w u p d h e f = rw (e, f, h.targets, h.work) (arrives (place ts w.motion) (place ts (happens m ts Tick w).motion))
 
--- a tick more, as a control gives it
-pub another : (m m' : Machine) (ts ts' : List Target) (w : Work) (k : ℕ) (v u : Work) (p : Place) (d : Pulses) (x y : ℤ)
-    → m' ≡ m → ts' ≡ ts → Gone m ts w k v p → u ≡ happens m' ts' Tick v → d ≡ pulses m' ts' Tick v
-    → x ≡ p.x +ℤ d.x → y ≡ p.y +ℤ d.y → Gone m ts w (suc k) u (record { x = x; y = y })
-unfolding row ticks
-another m m' ts ts' w k v u p d x y a b h e f g i =
-    let n : u ≡ happens m ts Tick v = e ∙ rw (a, b) in
-    let q : d ≡ pulses m ts Tick v = f ∙ rw (a, b) in
-    record {
-      work = n ∙ ap (happens m ts Tick) h.work;
-      stands = same_place
-          (g ∙ added _ _ _ (ap (λ (z : Pulses). z.x) q ∙ rw h.stands) ∙ ap (λ (z : Work). (place ts z.motion).x) (sym n))
-          (i ∙ added _ _ _ (ap (λ (z : Pulses). z.y) q ∙ rw h.stands) ∙ ap (λ (z : Work). (place ts z.motion).y) (sym n));
-    }
+-- and both are near
+pub near : (c : Control) (m' : Machine) (ts' : List Target) (u : Work) (p : Place) (d : Pulses)
+    → Happened c.machine (vec_items c.targets) c.work Tick m' ts' u → d ≡ pulses c.machine (vec_items c.targets) Tick c.work
+    → p ≡ place (vec_items c.targets) c.work.motion → Within 4000000000 p × Within 4000000000 (onto p d)
+near c m' ts' u p d h e f = (rw f (place_near c), rw (lands _ _ _ _ _ _ p d h e f, h.targets) (lands_near c Tick u h.work))
 
--- a place within 4 * 10^9, and the pulses to another such place
-sum_fits : (a b d : ℤ) → nat_abs a ≤ 4000000000 → nat_abs b ≤ 4000000000 → d ≡ b -ℤ a → SFits w64 (a +ℤ d)
-sum_fits a b d h k e = let s : a +ℤ d ≡ b = added a b d e in rw s (omega (arith, ints))
-
--- where a control is, and the pulses of its next tick
-pub sums_fit : (c : Control) (m : Machine) (ts : List Target) (w : Work) (k : ℕ) (p : Place) (d : Pulses) → vec_items c.targets ≡ ts → Gone m ts w k c.work p
-    → d ≡ pulses c.machine (vec_items c.targets) Tick c.work → SFits w64 (p.x +ℤ d.x) × SFits w64 (p.y +ℤ d.y)
-sums_fit c m ts w k p d b h e =
-    let q : p ≡ place (vec_items c.targets) c.work.motion = h.stands ∙ rw b in
-    let n = place_near c in
-    let l = lands_near c Tick (happens c.machine (vec_items c.targets) Tick c.work) refl in
-    rw q (sum_fits _ _ _ n.across l.across (ap (λ (z : Pulses). z.x) e), sum_fits _ _ _ n.along l.along (ap (λ (z : Pulses). z.y) e))
+-- one tick, and n more from where it leads
+pub onward : (m m1 m' : Machine) (ts ts1 ts' : List Target) (w u : Work) (n : ℕ)
+    → m1 ≡ m → ts1 ≡ ts → Happened m1 ts1 w Tick m' ts' u → row m ts (ticks n) u ≡ row m ts (ticks (suc n)) w
+onward m m1 m' ts ts1 ts' w u n a b h = rw (h.work, a, b) (sym (tick_first m ts n w))

@@ -5,11 +5,14 @@
 
 ghost use Rattle.std.specs.Prelude.{◌≡◌, ◌^◌, min};
 ghost use Rattle.ffi_run.specs.Runs.{Ran, RunTold};
+ghost use Rattle.geometry.specs.Places.{Within};
+ghost use Rattle.pulses.specs.Motors.{onto};
 ghost use Rattle.work.specs.Works.{place, row, ticks};
 
 use control::Control;
 use geometry::Place;
 use program::load;
+use pulses::Pulses;
 use refusal::{Failed, Refusal};
 use std::alloc::Global;
 
@@ -63,14 +66,19 @@ fn travel(control: &mut Control, count: u64) -> Place
     ensures { result ≡ place control.old.targets.items (row control.old.machine control.old.targets.items (ticks count) control.old.work).motion }
 {
     let mut end = control.place();
-    let mut left = count;
-    while left > 0 {
-        let pulses = control.tick();
-        end = Place {
-            x: end.x + pulses.x,
-            y: end.y + pulses.y,
-        };
-        left -= 1;
+    for _ in 0..count {
+        end = onto(end, control.tick());
     }
     end
+}
+
+// A place after pulses more.
+fn onto(place: Place, pulses: Pulses) -> Place
+    requires { (Within 4000000000 place) × (Within 4000000000 (onto place pulses)) }
+    ensures { result ≡ onto place pulses }
+{
+    Place {
+        x: place.x + pulses.x,
+        y: place.y + pulses.y,
+    }
 }

@@ -1,11 +1,12 @@
-use Rattle.std.proofs.Common.{◌≡◌, ◌-◌, ◌≤◌, vec_items}
-use Rattle.ffi_run.proofs.Travels.{Gone}
+use Rattle.std.proofs.Common.{◌≡◌, ◌-◌, vec_items}
+use Rattle.work.specs.Works.{place, row, ticks}
 use Rattle.ffi_run.proofs.travel.Given as goal
 
-abbrev pub invariant-loop-left : goal.invariant-loop-left
-invariant-loop-left l =
-    (l.left ≤ l.count) × (l.control.machine ≡ l.initial.control.machine) × (vec_items l.control.targets ≡ vec_items l.initial.control.targets)
-    × Gone l.initial.control.machine (vec_items l.initial.control.targets) l.initial.control.work (l.count - l.left) l.control.work l.end
-
-abbrev pub decreases-loop-left : goal.decreases-loop-left
-decreases-loop-left l = l.left
+abbrev pub invariant-loop : goal.invariant-loop
+invariant-loop l = record {
+  machine : l.control.machine ≡ l.initial.control.machine;
+  targets : vec_items l.control.targets ≡ vec_items l.initial.control.targets;
+  stands : l.end ≡ place (vec_items l.control.targets) l.control.work.motion;
+  onward : row l.initial.control.machine (vec_items l.initial.control.targets) (ticks (l.count - l.counter)) l.control.work
+      ≡ row l.initial.control.machine (vec_items l.initial.control.targets) (ticks l.count) l.initial.control.work;
+}
