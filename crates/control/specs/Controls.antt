@@ -74,7 +74,7 @@ pub record Happened (c : State) (e : Event) (d : State) : Type 0 where
   pub work : d.work ≡ happens c.machine c.targets e c.work
   pub promise : ∥ Promise c.machine origin c.targets d.work ∥₁
   -- it is not far from 0, 0, so that whoever adds up its pulses stays within an i64
-  pub near : Within 4000000000 (place c.targets d.work.motion)
+  pub near : Within 4000000000 (place d.targets d.work.motion)
 
 -- no axis gets more pulses than the cap or the speed it had
 pub record Few (c : State) (d : Pulses) : Type 0 where
