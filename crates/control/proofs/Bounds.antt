@@ -1,11 +1,10 @@
 -- What the code's sums and products ask for, of every state that a row of events leads to.
-use Rattle.std.proofs.Common.{◌≡◌, ℕ, zero, suc, ◌+◌, ◌*◌, ◌^◌, ◌<◌, ◌≤◌, true, List, [], ◌∷◌, ◌++◌, length, drop, Option, sym, refl, ap, ◌∙◌, subst, arith}
+use Rattle.std.proofs.Common.{◌≡◌, ℕ, zero, suc, ◌+◌, ◌*◌, ◌^◌, ◌<◌, ◌≤◌, true, List, [], ◌∷◌, ◌++◌, length, drop, sym, refl, ap, ◌∙◌, subst, arith}
 use Rattle.std.proofs.lemmas.Int.{ints}
 use Rattle.std.proofs.lemmas.List.{drop-append-le}
 use Rattle.std.proofs.lemmas.List.Folds.{list_all-append}
 use Rattle.std.proofs.lemmas.Bool.{and_parts}
 use Rattle.std.proofs.lemmas.Bool.Decides.{nat_tests}
-use Rattle.std.specs.Option.{option_to_list}
 use Rattle.geometry.proofs.Acts.{within_true}
 use Rattle.geometry.specs.declared.place.Place.{Place}
 use Rattle.geometry.specs.Places.{within, Within}
@@ -15,16 +14,13 @@ use Rattle.line.proofs.Walk.{long_within, strays}
 use Rattle.speed.proofs.Stopping.{slows}
 use Rattle.work.specs.declared.machine.Machine.{Machine}
 use Rattle.work.specs.declared.motion.Motion.{Motion}
-use Rattle.work.specs.declared.work.Work.{Work}
-use Rattle.work.specs.declared.event.Event.{Event}
-use Rattle.work.specs.declared.event.Event.TheVariants.{Tick, Hold, Go, Knob}
-use Rattle.work.specs.Works.{todo, toward, does, happens, stands, place}
+use Rattle.work.specs.Works.{todo, stands, place}
 use Rattle.work.specs.Promises.{start_of, CanStop}
-use Rattle.work.specs.Ranges.{NearLine, Near, Ready}
+use Rattle.work.specs.Ranges.{NearLine, Slow}
 use Rattle.work.proofs.Lists.{some_left}
 use Rattle.work.proofs.Safety.{Safe}
 use Rattle.work.proofs.Ticks.{begins}
-use Rattle.control.specs.Controls.{fit, near, origin, head_of}
+use Rattle.control.specs.Controls.{fit, near, origin}
 
 pub near_in : (ts : List Target) (b : ℕ) (t : Target) (us : List Target) → near ts ≡ true → drop b ts ≡ t ∷ us → Within 1000000000 t.to
 near_in [] zero t us h e = cc
@@ -40,28 +36,6 @@ near_start p (t ∷ ts) (suc k) h w = near_start t.to ts k (and_parts _ _ h).1 (
 
 pub near_push : (ts : List Target) (t : Target) → near ts ≡ true → within 1000000000 t.to ≡ true → near (ts ++ t ∷ []) ≡ true
 near_push ts t h k = simp (list_all-append, h, k)
-
--- an event, and where it is, see no more than the first of the targets still to go
-does_head : (m : Machine) (xs : List Target) (e : Event) (w : Work) → does m (option_to_list (head_of xs)) e w ≡ does m xs e w
-unfolding toward
-does_head m [] Tick w = refl
-does_head m (t ∷ us) Tick w = refl
-does_head m xs Hold w = refl
-does_head m xs Go w = refl
-does_head m xs (Knob n) w = refl
-
-stands_head : (w : Motion) (xs : List Target) → stands w (option_to_list (head_of xs)) ≡ stands w xs
-unfolding stands
-stands_head w [] = refl
-stands_head w (t ∷ us) = refl
-
-pub stands_next : (ts : List Target) (w : Motion) (next : Option Target) (p : Place) → next ≡ head_of (todo ts w) → p ≡ stands w (option_to_list next) → p ≡ place ts w
-stands_next ts w next p e h = h ∙ ap (λ (n : Option Target). stands w (option_to_list n)) e ∙ stands_head w (todo ts w)
-
-pub happens_next :
-    (m : Machine) (ts : List Target) (e : Event) (w v : Work) (next : Option Target) → next ≡ head_of (todo ts w.motion) →
-    v ≡ does m (option_to_list next) e w → v ≡ happens m ts e w
-happens_next m ts e w v next i h = h ∙ ap (λ (n : Option Target). does m (option_to_list n) e w) i ∙ does_head m (todo ts w.motion) e w
 
 -- along more targets it stands where it stood
 pub place_more : (m : Machine) (ts us : List Target) (w : Motion) → Safe m origin ts w → place ts w ≡ place (ts ++ us) w
@@ -98,24 +72,16 @@ module _ (m : Machine) (ts : List Target) (w : Motion) (f : fit m ≡ true) (h :
       by [] i = let c : CanStop m.change w [] = rw i at s.stop in omega (arith, c.0)
       by (t ∷ us) i = (on_the_way t us i).0.short
 
-  pub near_next : (next : Option Target) → next ≡ head_of (todo ts w) → Near w next
-  near_next next e = subst (Near w) (sym e) (by (todo ts w) refl)
-    where
-      by : (xs : List Target) → todo ts w ≡ xs → Near w (head_of xs)
-      by [] i = tt
-      by (t ∷ us) i = (on_the_way t us i).0
+  pub near_first : (t : Target) (us : List Target) → todo ts w ≡ t ∷ us → NearLine w t
+  near_first t us e = (on_the_way t us e).0
 
-  pub ready_next : length ts < 2 ^ 64 → (next : Option Target) → next ≡ head_of (todo ts w) → Ready m w next
-  ready_next k next e = subst (Ready m w) (sym e) (by (todo ts w) refl)
-    where
-      by : (xs : List Target) → todo ts w ≡ xs → Ready m w (head_of xs)
-      by [] i = tt
-      by (t ∷ us) i =
-          let z = on_the_way t us i in
-          record {
-            small = record { changes = (range m f).0; slow = z.1; short = omega (arith, z.0.short); few = omega (arith, some_left ts w.behind t us i) };
-            top = omega (arith, (range m f).2);
-          }
+  pub slow_first : length ts < 2 ^ 64 → (t : Target) (us : List Target) → todo ts w ≡ t ∷ us → Slow m w
+  slow_first k t us e =
+      let z = on_the_way t us e in
+      record {
+        small = record { changes = (range m f).0; slow = z.1; short = omega (arith, z.0.short); few = omega (arith, some_left ts w.behind t us e) };
+        top = omega (arith, (range m f).2);
+      }
 
   -- and it is not far from 0, 0
   pub place_near : Within 4000000000 (place ts w)

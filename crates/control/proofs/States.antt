@@ -1,5 +1,5 @@
 -- The same of a loaded control, whose invariant says how its state came about.
-use Rattle.std.proofs.Common.{◌≡◌, ℕ, ◌^◌, ◌<◌, ◌≤◌, Bool, true, false, cond, ◌⊎◌, List, [], ◌∷◌, ◌++◌, length, drop, Some, None, Ok, Err, Option, sym, refl, ap, ◌∙◌, subst, inl, inr, ⊎_elim, arith, drop_of_length-le}
+use Rattle.std.proofs.Common.{◌≡◌, ℕ, ◌^◌, ◌<◌, ◌≤◌, Bool, true, false, cond, ◌⊎◌, List, [], ◌∷◌, ◌++◌, length, drop, Ok, Err, sym, refl, ap, ◌∙◌, subst, inl, inr, ⊎_elim, arith, drop_of_length-le}
 use mathlib.Core.Logic.{∥∥₁_elim, ∥∥₁_map}
 use Rattle.std.proofs.Math.Bridge.{le_prop}
 use Rattle.std.proofs.Math.IntN.{ℤ_set}
@@ -10,28 +10,19 @@ use Rattle.geometry.specs.declared.place.Place.{Place}
 use Rattle.geometry.specs.Places.{within, Within}
 use Rattle.program.specs.declared.target.Target.{Target}
 use Rattle.work.specs.declared.machine.Machine.{Machine}
-use Rattle.work.specs.declared.motion.Motion.{Motion}
 use Rattle.work.specs.declared.work.Work.{Work}
 use Rattle.work.specs.declared.event.Event.{Event}
 use Rattle.work.specs.declared.event.Event.TheVariants.{Tick, Hold, Go, Knob}
 use Rattle.work.specs.Works.{todo, toward, does, happens, row, begun, after, after_tick, place}
 use Rattle.work.specs.Promises.{Promise}
-use Rattle.work.specs.Ranges.{NearLine, Near, Slow, Ready}
+use Rattle.work.specs.Ranges.{NearLine, Slow}
 use Rattle.work.proofs.Promise.{of_safe, kept}
 use Rattle.work.proofs.Ticks.{begins, lands_after}
 use Rattle.work.proofs.Safety.{Safe, safe_after}
 use Rattle.pulses.specs.declared.Pulses.{Pulses}
 use Rattle.pulses.specs.Motors.{between, pulses}
-use Rattle.control.specs.Controls.{in_range, machine_of, fit, origin, head_of, Reached, State, IsLoaded, Happened, Few}
+use Rattle.control.specs.Controls.{in_range, machine_of, fit, origin, Reached, State, IsLoaded, Happened, Few}
 use Rattle.control.proofs.Bounds as bounds
-
-near_prop : (w : Motion) (next : Option Target) → IsProp (Near w next)
-near_prop w None = hlevel
-near_prop w (Some t) = hlevel le_prop
-
-ready_prop : (m : Machine) (w : Motion) (next : Option Target) → IsProp (Ready m w next)
-ready_prop m w None = hlevel
-ready_prop m w (Some t) = hlevel le_prop
 
 safe : (m : Machine) (ts : List Target) (w : Work) → fit m ≡ true → Reached m ts w → Safe m origin ts w.motion
 safe m ts w f r = subst (λ (v : Work). Safe m origin ts v.motion) (sym r.is) (safe_after m origin ts (bounds.range m f).0 r.events)
@@ -90,13 +81,11 @@ abbrev state : Machine → List Target → Work → State
 state m ts w = record { machine = m; targets = ts; work = w }
 
 module _ {m : Machine} {ts : List Target} {w : Work} {p : Place} (k : IsLoaded m ts w p) where
-  ready_next : length ts < 2 ^ 64 → (next : Option Target) → next ≡ head_of (todo ts w.motion) → Ready m w.motion next
-  ready_next l next e = ∥∥₁_elim k.reached (ready_prop m w.motion next)
-      (λ r. bounds.ready_next m ts w.motion k.fits k.close (safe m ts w k.fits r) l next e)
+  near_first : (t : Target) (us : List Target) → todo ts w.motion ≡ t ∷ us → NearLine w.motion t
+  near_first t us e = ∥∥₁_elim k.reached (hlevel le_prop) (λ r. bounds.near_first m ts w.motion k.fits k.close (safe m ts w k.fits r) t us e)
 
-  near_next : (next : Option Target) → next ≡ head_of (todo ts w.motion) → Near w.motion next
-  near_next next e = ∥∥₁_elim k.reached (near_prop w.motion next)
-      (λ r. bounds.near_next m ts w.motion k.fits k.close (safe m ts w k.fits r) next e)
+  slow_first : length ts < 2 ^ 64 → (t : Target) (us : List Target) → todo ts w.motion ≡ t ∷ us → Slow m w.motion
+  slow_first l t us e = ∥∥₁_elim k.reached (hlevel le_prop) (λ r. bounds.slow_first m ts w.motion k.fits k.close (safe m ts w k.fits r) l t us e)
 
   pub near_at : Within 4000000000 p
   near_at = rw k.stood (∥∥₁_elim k.reached (hlevel le_prop) (λ r. bounds.place_near m ts w.motion k.fits k.close (safe m ts w k.fits r)))
@@ -152,7 +141,7 @@ module _ {m : Machine} {ts : List Target} {w : Work} {p : Place} (k : IsLoaded m
   -- a tick toward t, the first of the targets still to go
   module _ (t : Target) (us : List Target) (e : todo ts w.motion ≡ t ∷ us) where
     pub slow_toward : length ts < 2 ^ 64 → Slow m w.motion
-    slow_toward l = ready_next k l (Some t) (sym (ap head_of e))
+    slow_toward l = slow_first k l t us e
 
     module _ (v : Work) (h : v ≡ does m (t ∷ []) Tick w) where
       pub ticks : v ≡ happens m ts Tick w
@@ -160,7 +149,7 @@ module _ {m : Machine} {ts : List Target} {w : Work} {p : Place} (k : IsLoaded m
       ticks = h ∙ sym (ap (λ (xs : List Target). does m xs Tick w) e)
 
       pub near_toward : v.motion.behind ≡ w.motion.behind → NearLine v.motion t
-      near_toward j = near_next (loaded k Tick v (place ts v.motion) ticks refl) (Some t) (sym (ap (λ (b : ℕ). head_of (drop b ts)) j ∙ ap head_of e))
+      near_toward j = near_first (loaded k Tick v (place ts v.motion) ticks refl) t us (ap (λ (b : ℕ). drop b ts) j ∙ e)
 
       pub loaded_on : (q : Place) → q ≡ after_tick v.motion w.motion.behind t → IsLoaded m ts v q
       loaded_on q j = loaded k Tick v q ticks (

@@ -4,14 +4,13 @@
 --   near ts          no target is past 10^9 on an axis
 --   load_of a t ts   the machine that a control is loaded with, or the refusal
 --   origin           0, 0, where programs begin
---   head_of xs       the first of a list
 --   Reached m ts w   some row of events leads from the beginning to w
 --   State            what callers see of a control: its machine, its targets, its work
 --   IsLoaded         what holds of a control in every state
 --   Happened c e d   the event e leaves d of the control c
 --   Few c d          d is no more than a tick of c gives at the most
 --   Added t r c d    an added target t that is answered by r leaves d of the control c
-use Rattle.std.specs.Prelude.{◌≡◌, ℕ, ◌≤◌, max, Bool, true, false, cond, ◌&&◌, List, [], ◌∷◌, ◌++◌, pos, Some, None, Ok, Err, Option, Result, nat_le, unsigned_abs}
+use Rattle.std.specs.Prelude.{◌≡◌, ℕ, ◌≤◌, max, Bool, true, false, cond, ◌&&◌, List, [], ◌∷◌, ◌++◌, pos, Ok, Err, Result, nat_le, unsigned_abs}
 use Rattle.std.specs.List.{list_all}
 use Rattle.refusal.specs.declared.Refusal.{Refusal}
 use Rattle.refusal.specs.declared.Refusal.TheVariants.{Machine as Unfit, Lent}
@@ -51,10 +50,6 @@ fit m = in_range m.change && in_range m.top
 abbrev pub origin : Place
 origin = record { x = pos 0; y = pos 0 }
 
-abbrev pub head_of : List Target → Option Target
-head_of [] = None
-head_of (t ∷ ts) = Some t
-
 pub record Reached (m : Machine) (ts : List Target) (w : Work) : Type 0 where
   pub events : List Event
   pub is : w ≡ after m ts origin events
@@ -79,7 +74,7 @@ pub record Happened (c : State) (e : Event) (d : State) : Type 0 where
   pub work : d.work ≡ happens c.machine c.targets e c.work
   pub promise : ∥ Promise c.machine origin c.targets d.work ∥₁
   -- it is not far from 0, 0, so that whoever adds up its pulses stays within an i64
-  pub near : Within 4000000000 (place c.targets d.work.motion)
+  pub near : Within 4000000000 (place d.targets d.work.motion)
 
 -- no axis gets more pulses than the cap or the speed it had
 pub record Few (c : State) (d : Pulses) : Type 0 where

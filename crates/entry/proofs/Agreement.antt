@@ -16,7 +16,7 @@ use Rattle.work.proofs.Safety.{Safe, safe_after}
 use Rattle.work.proofs.Ticks.{ticked}
 use Rattle.control.specs.Controls.{in_range, fit, near, origin, Reached}
 use Rattle.control.proofs.Bounds.{range, from_near, steps_near}
-use Rattle.entry.specs.Entries.{targets_in, work_in, memory_of, all_within, sound, refusal_of}
+use Rattle.entry.specs.Entries.{targets_in, work_in, memory_of, sound, refusal_of}
 use Rattle.entry.specs.Agreement.{flat, Agrees}
 
 said : (ts : List Target) → targets_in (flat ts) ≡ ts
@@ -77,7 +77,6 @@ tame_after m ts f (e ∷ es) = by e (tame_after m ts f es)
 -- memory whose numbers are in range is sound
 sound_memory : (w : Work) → w.motion.behind ≤ 2000000000 → Within 1000000000 w.motion.from → w.motion.done ≤ 2000000000
     → w.motion.speed ≤ 2000000000 → w.panel.percent ≤ 100 → sound (memory_of w) ≡ true
-unfolding all_within
 sound_memory w b f d v p =
     let e0 : leb w.motion.behind 2000000000 ≡ true = le-leb _ _ b in
     let e1 : leb (nat_abs w.motion.from.x) 2000000000 ≡ true = le-leb _ _ (omega (arith, f.across)) in

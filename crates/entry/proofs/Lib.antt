@@ -1,4 +1,5 @@
 pub mod Agreement
 pub mod Checks
+pub mod First
 pub mod Ranges
 pub mod Threes

@@ -1,5 +1,5 @@
 -- Numbers that passed the checks stay in the ranges that the code asks for, through one event.
-use Rattle.std.proofs.Common.{◌≡◌, ◌+◌, ◌-◌, ◌*◌, ◌^◌, ◌<◌, ◌≤◌, true, List, [], ◌∷◌, Option, sym, refl, subst, inl, inr, arith}
+use Rattle.std.proofs.Common.{◌≡◌, ◌+◌, ◌-◌, ◌*◌, ◌^◌, ◌<◌, ◌≤◌, true, List, [], ◌∷◌, Option, slice_get, Some, None, sym, refl, ◌∙◌, subst, inl, inr, arith}
 use Rattle.std.proofs.lemmas.Int.{ints}
 use Rattle.std.proofs.lemmas.Bool.{cases_lt}
 use Rattle.geometry.specs.Places.{Within}
@@ -16,19 +16,20 @@ use Rattle.work.specs.declared.event.Event.TheVariants.{Tick, Hold, Go, Knob}
 use Rattle.work.specs.Works.{limit, steps, todo, tick, happens, stands, place}
 use Rattle.work.specs.Ranges.{Near, Ready}
 use Rattle.work.proofs.Ticks.{none, going, ending}
-use Rattle.control.specs.Controls.{near, head_of}
+use Rattle.control.specs.Controls.{near}
 use Rattle.control.proofs.Bounds.{near_in, range}
 use Rattle.entry.specs.Entries.{InRange}
+use Rattle.entry.proofs.First.{first, next_first}
 
 -- what a place asks for
 record Placed (w : Motion) : Type 0 where
   begins : Within 1000000000 w.from
   short : w.done ≤ 2000000000
 
-near_next : (ts : List Target) (w : Motion) (next : Option Target) → near ts ≡ true → Placed w → next ≡ head_of (todo ts w) → Near w next
-near_next ts w next h p e = subst (Near w) (sym e) (by (todo ts w) refl)
+near_next : (ts : List Target) (w : Motion) (next : Option Target) → near ts ≡ true → Placed w → next ≡ slice_get ts w.behind → Near w next
+near_next ts w next h p e = subst (Near w) (sym (e ∙ next_first ts w.behind)) (by (todo ts w) refl)
   where
-    by : (xs : List Target) → todo ts w ≡ xs → Near w (head_of xs)
+    by : (xs : List Target) → todo ts w ≡ xs → Near w (first xs)
     by [] i = tt
     by (t ∷ us) i = record { begins = p.begins; ends = near_in ts w.behind t us h i; short = p.short }
 
@@ -52,23 +53,20 @@ module _ (m : Machine) (ts : List Target) (w : Work) (r : InRange m ts w) where
   placed : Placed w.motion
   placed = record { begins = r.begins; short = r.short }
 
-  pub first_near : (next : Option Target) → next ≡ head_of (todo ts w.motion) → Near w.motion next
+  pub first_near : (next : Option Target) → next ≡ slice_get ts w.motion.behind → Near w.motion next
   first_near next e = near_next ts w.motion next r.close placed e
 
-  pub ready_next : (next : Option Target) → next ≡ head_of (todo ts w.motion) → Ready m w.motion next
-  ready_next next e = subst (Ready m w.motion) (sym e) (by (todo ts w.motion))
-    where
-      by : (xs : List Target) → Ready m w.motion (head_of xs)
-      by [] = tt
-      by (t ∷ us) = record {
-        small = record {
-          changes = (range m r.fits).0;
-          slow = omega (arith, r.slow, (range m r.fits).1);
-          short = omega (arith, r.short);
-          few = omega (arith, r.few);
-        };
-        top = omega (arith, (range m r.fits).2);
-      }
+  pub ready_next : (next : Option Target) → Ready m w.motion next
+  ready_next None = tt
+  ready_next (Some t) = record {
+    small = record {
+      changes = (range m r.fits).0;
+      slow = omega (arith, r.slow, (range m r.fits).1);
+      short = omega (arith, r.short);
+      few = omega (arith, r.few);
+    };
+    top = omega (arith, (range m r.fits).2);
+  }
 
   kept_tick : (q : Panel) → Kept (tick m q ts w.motion)
   kept_tick q = by (todo ts w.motion) refl
@@ -94,7 +92,7 @@ module _ (m : Machine) (ts : List Target) (w : Work) (r : InRange m ts w) where
   kept Go = record { placed = placed; few = omega (arith, r.few); slow = omega (arith, r.slow) }
   kept (Knob n) = record { placed = placed; few = omega (arith, r.few); slow = omega (arith, r.slow) }
 
-  pub next_near : (e : Event) (v : Work) → v ≡ happens m ts e w → (next : Option Target) → next ≡ head_of (todo ts v.motion) → Near v.motion next
+  pub next_near : (e : Event) (v : Work) → v ≡ happens m ts e w → (next : Option Target) → next ≡ slice_get ts v.motion.behind → Near v.motion next
   next_near e v h next i = near_next ts v.motion next r.close (rw h (kept e).placed) i
 
   pub before_near : Within 4000000000 (place ts w.motion)

@@ -7,9 +7,12 @@
 --   InRange         numbers that an event can work on
 --   event_of k n     the event of kind k: 0 tick, 1 hold, 2 go, 3 the knob turned to n
 --   first cs         the refusal of the first check that fails
---   checks, refusal_of   the checks of an event on lent numbers, in the order of the list, and the first that fails
+--   machine_checks, targets_checks, memory_checks, event_checks   the checks of each part of what is lent, in the order of the list
+--   checks, refusal_of   all checks of an event on lent numbers, in that order, and the first that fails
+--   Checked cs r P   a part with the checks cs is read as r: of what is read P holds, or the first check fails
 --   DoneSays        what the entry answers and what memory holds then
-use Rattle.std.specs.Prelude.{◌≡◌, ℕ, ◌%◌, ◌≤◌, Bool, true, cond, ◌&&◌, List, [], ◌∷◌, length, ℤ, pos, Some, None, Option, ◌==◌, nat_le, slice_index_or, unsigned_abs}
+use Rattle.std.specs.Prelude.{◌≡◌, ℕ, ◌%◌, ◌≤◌, Bool, true, cond, ◌&&◌, List, [], ◌∷◌, ◌++◌, length, ℤ, pos, Some, None, Option, Result, MatchResult, ◌==◌, nat_le, slice_index_or, unsigned_abs}
+use Rattle.std.specs.List.{list_all}
 use Rattle.refusal.specs.declared.Refusal.{Refusal}
 use Rattle.refusal.specs.declared.EventPart.TheVariants.{Kind, Number}
 use Rattle.refusal.specs.declared.LentPart.TheVariants.{Targets, Place as far, Memory}
@@ -17,6 +20,7 @@ use Rattle.refusal.specs.declared.MachinePart.TheVariants.{Change, Top}
 use Rattle.refusal.specs.declared.Refusal.TheVariants.{Machine as Unfit, Lent, Event as Unknown}
 use Rattle.geometry.specs.Places.{within, Within}
 use Rattle.count.specs.Counts.{size}
+use Rattle.program.specs.Targets.{target_of}
 use Rattle.program.specs.declared.target.Target.{Target}
 use Rattle.work.specs.declared.machine.Machine.{Machine}
 use Rattle.work.specs.declared.work.Work.{Work}
@@ -28,9 +32,6 @@ use Rattle.pulses.specs.Motors.{pulses}
 use Rattle.control.specs.Controls.{in_range, fit, near}
 use Rattle.entry.specs.declared.done.Done.{Done}
 use Rattle.entry.specs.declared.done.Done.TheVariants.{Moved, Turned}
-
-abbrev pub target_of : ℤ → ℤ → ℤ → Target
-target_of x y f = record { to = record { x = x; y = y }; fast = size f }
 
 unfoldable pub targets_in : List ℤ → List Target
 targets_in [] = []
@@ -52,9 +53,8 @@ memory_of w =
     pos w.motion.behind ∷ (w.motion.from.x ∷ (w.motion.from.y ∷ (pos w.motion.done ∷ (pos w.motion.speed
     ∷ (pos (cond w.panel.held 1 0) ∷ (pos w.panel.percent ∷ []))))))
 
-unfoldable pub all_within : ℕ → List ℤ → Bool
-all_within m [] = true
-all_within m (x ∷ xs) = nat_le (unsigned_abs x) m && all_within m xs
+abbrev pub all_within : ℕ → List ℤ → Bool
+all_within m xs = list_all (λ x. nat_le (unsigned_abs x) m) xs
 
 abbrev pub sound : List ℤ → Bool
 sound xs =
@@ -82,18 +82,27 @@ abbrev pub first : List Check → Option Refusal
 first [] = None
 first (c ∷ cs) = cond c.passes (first cs) (Some c.«else»)
 
+abbrev pub machine_checks : (a t : ℕ) → List Check
+machine_checks a t = record { passes = in_range a; «else» = Unfit Change } ∷ (record { passes = in_range t; «else» = Unfit Top } ∷ [])
+
+abbrev pub targets_checks : List ℤ → List Check
+targets_checks xs =
+    record { passes = (length xs % 3 == 0); «else» = Lent Targets } ∷ (record { passes = near (targets_in xs); «else» = Lent far } ∷ [])
+
+abbrev pub memory_checks : List ℤ → List Check
+memory_checks xs = record { passes = sound xs; «else» = Lent Memory } ∷ []
+
+abbrev pub event_checks : (kind number : ℕ) → List Check
+event_checks k n = record { passes = nat_le k 3; «else» = Unknown Kind } ∷ (record { passes = nat_le n 1000; «else» = Unknown Number } ∷ [])
+
 abbrev pub checks : (a t : ℕ) → (targets memory : List ℤ) → (kind number : ℕ) → List Check
-checks a t targets memory kind number =
-    record { passes = in_range a; «else» = Unfit Change }
-    ∷ (record { passes = in_range t; «else» = Unfit Top }
-    ∷ (record { passes = (length targets % 3 == 0); «else» = Lent Targets }
-    ∷ (record { passes = near (targets_in targets); «else» = Lent far }
-    ∷ (record { passes = sound memory; «else» = Lent Memory }
-    ∷ (record { passes = nat_le kind 3; «else» = Unknown Kind }
-    ∷ (record { passes = nat_le number 1000; «else» = Unknown Number } ∷ []))))))
+checks a t targets memory kind number = machine_checks a t ++ (targets_checks targets ++ (memory_checks memory ++ event_checks kind number))
 
 abbrev pub refusal_of : (a t : ℕ) → (targets memory : List ℤ) → (kind number : ℕ) → Option Refusal
 refusal_of a t targets memory kind number = first (checks a t targets memory kind number)
+
+abbrev pub Checked : {A : Type 0} → List Check → Result A Refusal → (A → Type 0) → Type 0
+Checked cs r P = MatchResult r (λ x. (first cs ≡ None) × P x) (λ e. first cs ≡ Some e)
 
 abbrev pub moved_by : Pulses → Done
 moved_by d = Moved d.x d.y

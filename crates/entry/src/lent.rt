@@ -1,41 +1,39 @@
-// Reading lent numbers: targets of three numbers each, and memory of seven.
-ghost use Rattle.std.specs.Prelude.{◌≡◌, drop};
-ghost use Rattle.control.specs.Controls.{near, head_of};
-ghost use Rattle.entry.specs.Entries.{targets_in};
+// Lent targets, of three numbers each.
+ghost use Rattle.std.specs.Prelude.{◌≡◌, map, slice_get};
+ghost use Rattle.control.specs.Controls.{near};
+ghost use Rattle.entry.specs.Entries.{Checked, targets_checks, targets_in};
+ghost use Rattle.program.specs.Targets.{target_in};
 
-use count::count;
-use geometry::Place;
 use program::Target;
+use refusal::{LentPart, Refusal};
 
-// The target at a place of the list, if there is one.
-pub fn target_at(targets: &[i64], i: usize) -> Option<Target>
-    ensures { result ≡ head_of (drop i (targets_in targets.now)) }
+// The targets that numbers say, three each and none of them too far.
+pub fn targets_in(numbers: &[i64]) -> Result<&[[i64; 3]], Refusal>
+    ensures { Checked (targets_checks numbers.now) result (λ targets. map target_in targets.now ≡ targets_in numbers.now) }
 {
-    if i >= targets.len() / 3 {
-        return None;
+    let (targets, []) = numbers.as_chunks() else {
+        return Err(Refusal::Lent(LentPart::Targets));
+    };
+    if !all_near(targets) {
+        return Err(Refusal::Lent(LentPart::Place));
     }
-    let at = 3 * i;
-    Some(Target {
-        to: Place {
-            x: targets[at],
-            y: targets[at + 1],
-        },
-        fast: count(targets[at + 2]),
-    })
+    Ok(targets)
 }
 
 // Whether no target is past 10^9 on an axis.
-pub fn targets_near(targets: &[i64]) -> bool
-    ensures { result ≡ near (targets_in targets.now) }
+fn all_near(targets: &[[i64; 3]]) -> bool
+    ensures { result ≡ near (map target_in targets.now) }
 {
-    for i in 0..targets.len() / 3 {
-        let to = Place {
-            x: targets[3 * i],
-            y: targets[3 * i + 1],
-        };
-        if !to.is_within(Place::REACH) {
-            return false;
-        }
-    }
-    true
+    targets
+        .iter()
+        .copied()
+        .map(Target::from)
+        .all(Target::is_near)
+}
+
+// The target at a place of the list, if there is one.
+pub fn target_at(targets: &[[i64; 3]], i: usize) -> Option<Target>
+    ensures { result ≡ slice_get (map target_in targets.now) i }
+{
+    targets.get(i).copied().map(Target::from)
 }

@@ -5,11 +5,11 @@
 
 ghost use Rattle.entry.specs.Agreement.{Agrees};
 
-mod check;
 mod done;
 mod events;
 mod lent;
 mod memory;
+mod request;
 
 pub use done::Done;
 pub use events::happen;

@@ -1,69 +1,49 @@
-// Memory of seven numbers: whether it is taken, the work that it says, and the work written back.
-ghost use Rattle.std.specs.Prelude.{◌≡◌, ℕ, ◌^◌, ◌<◌, ◌≤◌, true, length};
-ghost use Rattle.entry.specs.Entries.{all_within, sound, work_in, memory_of};
+// Memory of seven numbers: the work that it says, if it is taken, and the work written back.
+ghost use Rattle.std.specs.Prelude.{◌≡◌, ◌^◌, ◌<◌};
+ghost use Rattle.entry.specs.Entries.{Checked, memory_checks, all_within, work_in, memory_of};
 
 use count::count;
 use geometry::Place;
+use refusal::{LentPart, Refusal};
 use work::{Motion, Panel, Work};
 
 // How large a number in memory may be either way.
 const MOST: u64 = 2_000_000_000;
 
-// Whether memory is taken.
-pub fn is_sound(memory: &[i64]) -> bool
-    ensures { result ≡ sound memory.now }
+// The work that memory says.
+pub fn work_in(memory: &[i64]) -> Result<Work, Refusal>
+    ensures { Checked (memory_checks memory.now) result (λ work. work ≡ work_in memory.now) }
 {
-    if memory.len() != 7 {
-        return false;
+    let unsound = Err(Refusal::Lent(LentPart::Memory));
+    let [behind, x, y, done, speed, held, percent] = *memory else {
+        return unsound;
+    };
+    let from = Place { x, y };
+    if !all_within(memory, MOST) || count(percent) > 100 || !from.is_within(Place::REACH) {
+        return unsound;
     }
-    if !all_within(memory, MOST) {
-        return false;
-    }
-    if count(memory[6]) > 100 {
-        return false;
-    }
-    Place {
-        x: memory[1],
-        y: memory[2],
-    }
-    .is_within(Place::REACH)
+    Ok(Work {
+        motion: Motion {
+            behind: count(behind) as usize,
+            from,
+            done: count(done),
+            speed: count(speed),
+        },
+        panel: Panel {
+            held: count(held) == 1,
+            percent: count(percent) as u32,
+        },
+    })
 }
 
 // Whether no number is past m either way.
 fn all_within(numbers: &[i64], m: u64) -> bool
     ensures { result ≡ all_within m numbers.now }
 {
-    for n in numbers {
-        if n.unsigned_abs() > m {
-            return false;
-        }
-    }
-    true
+    numbers.iter().all(|n| n.unsigned_abs() <= m)
 }
 
-// The work that memory says.
-pub fn work_in(memory: &[i64]) -> Work
-    requires sound { sound memory.now ≡ true }
-    ensures { result ≡ work_in memory.now }
-{
-    Work {
-        motion: Motion {
-            behind: count(memory[0]) as usize,
-            from: Place {
-                x: memory[1],
-                y: memory[2],
-            },
-            done: count(memory[3]),
-            speed: count(memory[4]),
-        },
-        panel: Panel {
-            held: count(memory[5]) == 1,
-            percent: count(memory[6]) as u32,
-        },
-    }
-}
-
-// The seven numbers of a work.
+// The seven numbers of a work. No `From`: that may ask nothing, and these have to fit.
 pub fn memory_of(work: Work) -> [i64; 7]
     requires behind { work.motion.behind < 2 ^ 63 }
     requires done { work.motion.done < 2 ^ 63 }

@@ -4,12 +4,14 @@
 #![tactic(auto)]
 
 ghost use Rattle.std.specs.Prelude.{◌≡◌, ◌^◌, min};
-ghost use Rattle.ffi_run.specs.Runs.{Ran, RunTold};
-ghost use Rattle.work.specs.Works.{place, row, ticks};
+ghost use Rattle.ffi_run.specs.Runs.{end_from, Ran, RunTold};
+ghost use Rattle.geometry.specs.Places.{Within};
+ghost use Rattle.pulses.specs.Motors.{onto};
 
 use control::Control;
 use geometry::Place;
 use program::load;
+use pulses::Pulses;
 use refusal::{Failed, Refusal};
 use std::alloc::Global;
 
@@ -60,17 +62,22 @@ fn run(
 
 // Where a control is after so many ticks more, by adding up their pulses.
 fn travel(control: &mut Control, count: u64) -> Place
-    ensures { result ≡ place control.old.targets (row control.old.machine control.old.targets (ticks count) control.old.work).motion }
+    ensures { result ≡ end_from control.old count }
 {
     let mut end = control.place();
-    let mut left = count;
-    while left > 0 {
-        let pulses = control.tick();
-        end = Place {
-            x: end.x + pulses.x,
-            y: end.y + pulses.y,
-        };
-        left -= 1;
+    for _ in 0..count {
+        end = onto(end, control.tick());
     }
     end
+}
+
+// A place after pulses more.
+fn onto(place: Place, pulses: Pulses) -> Place
+    requires { (Within 4000000000 place) × (Within 4000000000 (onto place pulses)) }
+    ensures { result ≡ onto place pulses }
+{
+    Place {
+        x: place.x + pulses.x,
+        y: place.y + pulses.y,
+    }
 }

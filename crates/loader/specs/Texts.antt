@@ -3,6 +3,7 @@
 --                   it stands; or the first check of the program's numbers that fails; or want of memory
 --   LoadsNodes, LoadsText   the same on the way to a loaded control: its targets, its machine, its work at the beginning; or
 --                   the first refusal, of the text, of the program's numbers, or of the machine
+--   failure_of e    a text that can't be read, as a failure
 --   refusal_in f    the refusal that a failure is, none for want of memory
 use Rattle.std.specs.Prelude.{◌≡◌, ℕ, ◌⊎◌, List, ℤ, Some, None, Ok, Err, vec_items, Option, Result, Vec}
 use Rattle.std.specs.declared.alloc.Global.{Global}
@@ -15,6 +16,8 @@ use Rattle.program.specs.declared.target.Target.{Target}
 use Rattle.work.specs.Works.{begun}
 use Rattle.control.specs.Controls.{load_of, origin}
 use Rattle.control.specs.declared.control.Control.{Control}
+use Rattle.text.specs.declared.error.ReadError.{ReadError}
+use Rattle.text.specs.declared.error.ReadError.TheVariants as read
 use Rattle.text.specs.declared.error.Unreadable as unreadable
 use Rattle.loader.specs.declared.failure.Failure.{Failure}
 use Rattle.loader.specs.declared.failure.Failure.TheVariants.{Unreadable, Refused, Memory}
@@ -25,6 +28,10 @@ Says x most (Err (Unreadable u)) = x ≡ Err u
 Says x most (Err (Refused e v)) = (x ≡ Ok (vec_items v)) × (refusal_of (vec_items v) most ≡ Some e)
 Says x most (Err Memory) = Unit {0}
 
+abbrev pub failure_of : ReadError → Failure
+failure_of (read.Unreadable u) = Unreadable u
+failure_of read.Memory = Memory
+
 abbrev pub refusal_in : Failure → Option refusal.Refusal
 refusal_in (Unreadable u) = Some (Text u.line)
 refusal_in (Refused e v) = Some e
@@ -33,7 +40,7 @@ refusal_in Memory = None
 -- a control loaded with what numbers say: at the beginning, with that machine and those targets
 pub record LoadsWith (xs : List ℤ) (most a t : ℕ) (c : Control) : Type 0 where
   pub says : refusal_of xs most ≡ None
-  pub targets : vec_items c.targets ≡ said xs
+  pub targets : c.targets ≡ said xs
   pub machine : load_of a t (said xs) ≡ Ok c.machine
   pub work : c.work ≡ begun origin
 

@@ -21,10 +21,7 @@ pub fn load_nodes(
     ensures { LoadsNodes nodes.now (min most (2 ^ 60)) change top result }
 {
     let targets = load(heap, nodes, most)?;
-    match Control::load(change, top, targets) {
-        Ok(control) => Ok(control),
-        Err(refusal) => Err(Failed::Refused(refusal)),
-    }
+    Ok(Control::load(change, top, targets)?)
 }
 
 // A control loaded with a program's text.
@@ -38,8 +35,5 @@ pub fn load_text(
     ensures { LoadsText (read_text text.now) (min most (2 ^ 60)) change top result }
 {
     let targets = targets(heap, text, most)?;
-    match Control::load(change, top, targets) {
-        Ok(control) => Ok(control),
-        Err(refusal) => Err(Failure::Refused(refusal, Vec::new(heap))),
-    }
+    Control::load(change, top, targets).map_err(|refusal| Failure::Refused(refusal, Vec::new(heap)))
 }

@@ -7,20 +7,15 @@ use crate::failure::Failure;
 use program::{Target, load};
 use refusal::Failed;
 use std::alloc::Global;
-use text::{ReadError, read};
+use text::read;
 
 // The targets that a text says, where there are no more than `most`.
 pub fn targets(heap: Global, text: &[u8], most: u64) -> Result<Vec<Target>, Failure>
     ensures { Says (read_text text.now) (min most (2 ^ 60)) result }
 {
-    let nodes = match read(heap, text) {
-        Ok(nodes) => nodes,
-        Err(ReadError::Unreadable(unreadable)) => return Err(Failure::Unreadable(unreadable)),
-        Err(ReadError::Memory) => return Err(Failure::Memory),
-    };
-    match load(heap, &nodes, most) {
-        Ok(targets) => Ok(targets),
-        Err(Failed::Refused(refusal)) => Err(Failure::Refused(refusal, nodes)),
-        Err(Failed::Memory) => Err(Failure::Memory),
-    }
+    let nodes = read(heap, text)?;
+    load(heap, &nodes, most).map_err(|failed| match failed {
+        Failed::Refused(refusal) => Failure::Refused(refusal, nodes),
+        Failed::Memory => Failure::Memory,
+    })
 }

@@ -9,6 +9,7 @@ use Rattle.work.specs.declared.work.Work.{Work}
 use Rattle.work.specs.declared.event.Event.TheVariants.{Tick}
 use Rattle.work.specs.Works.{happens, row, ticks}
 use Rattle.pulses.specs.Motors.{pulses}
+use Rattle.control.specs.Controls.{State}
 use Rattle.decimal.specs.Lines.{pulses_line}
 
 unfoldable pub ticked : Machine → List Target → ℕ → Work → List ℕ
@@ -20,14 +21,14 @@ left_over full m ts zero w out = zero
 left_over full m ts (suc n) w out =
     cond (nat_le full (length out)) (suc n) (left_over full m ts n (happens m ts Tick w) (out ++ pulses_line (pulses m ts Tick w)))
 
-pub record Ran (full n left : ℕ) (m : Machine) (ts : List Target) (w : Work) (out : List ℕ) (m' : Machine) (ts' : List Target) (w' : Work) (out' : List ℕ) : Type 0 where
+pub record Ran (full n left : ℕ) (c : State) (out : List ℕ) (d : State) (out' : List ℕ) : Type 0 where
   pub some : left ≤ n
-  pub machine : m' ≡ m
-  pub targets : ts' ≡ ts
+  pub machine : d.machine ≡ c.machine
+  pub targets : d.targets ≡ c.targets
   -- so many ticks were made, and each one's pulses were put
-  pub work : w' ≡ row m ts (ticks (n - left)) w
-  pub lines : out' ≡ out ++ ticked m ts (n - left) w
+  pub work : d.work ≡ row c.machine c.targets (ticks (n - left)) c.work
+  pub lines : out' ≡ out ++ ticked c.machine c.targets (n - left) c.work
   -- it ends with the last tick, or with the first line that makes it enough
-  pub stops : left ≡ left_over full m ts n w out
+  pub stops : left ≡ left_over full c.machine c.targets n c.work out
   -- it gets on, unless the lines were too many before
   pub onward : length out < full → 1 ≤ n → left < n

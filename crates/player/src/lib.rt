@@ -14,7 +14,7 @@ const FULL: usize = 65_536;
 
 // Makes up to n ticks and puts each one's pulses, until there is enough to write out. Answers how many are left.
 pub fn run(control: &mut Control, n: u64, out: &mut Vec<u8>) -> Result<u64, AllocError>
-    ensures { IfOk result (λ left. Ran 65536 n left control.old.machine control.old.targets.items control.old.work out.old.items control.new.machine control.new.targets.items control.new.work out.new.items) }
+    ensures { IfOk result (λ left. Ran 65536 n left control.old out.old.items control.new out.new.items) }
 {
     for made in 0..n {
         if out.len() >= FULL {

@@ -17,7 +17,7 @@ use Rattle.pulses.specs.Motors.{between, onto, pulses, given, motor, MotorLaws}
 pub same_pulses : {a b : Pulses} → a.x ≡ b.x → a.y ≡ b.y → a ≡ b
 same_pulses e f = λ i. record { x = e i; y = f i }
 
-onto_between : (p q : Place) → onto p (between p q) ≡ q
+pub onto_between : (p q : Place) → onto p (between p q) ≡ q
 onto_between p q = same_place (omega (arith, ints)) (omega (arith, ints))
 
 pub still : (p : Place) → between p p ≡ record { x = pos 0; y = pos 0 }

@@ -1,11 +1,12 @@
-use Rattle.std.proofs.Common.{◌≡◌, ◌-◌, ◌≤◌, vec_items}
-use Rattle.ffi_run.proofs.Travels.{Gone}
+use Rattle.std.proofs.Common.{◌≡◌, ◌-◌}
+use Rattle.geometry.specs.Places.{Within}
+use Rattle.work.specs.Works.{place}
+use Rattle.ffi_run.specs.Runs.{end_from}
 use Rattle.ffi_run.proofs.travel.Given as goal
 
-abbrev pub invariant-loop-left : goal.invariant-loop-left
-invariant-loop-left l =
-    (l.left ≤ l.count) × (l.control.machine ≡ l.initial.control.machine) × (vec_items l.control.targets ≡ vec_items l.initial.control.targets)
-    × Gone l.initial.control.machine (vec_items l.initial.control.targets) l.initial.control.work (l.count - l.left) l.control.work l.end
-
-abbrev pub decreases-loop-left : goal.decreases-loop-left
-decreases-loop-left l = l.left
+abbrev pub invariant-loop : goal.invariant-loop
+invariant-loop l = record {
+  stands : l.end ≡ place l.control.targets l.control.work.motion;
+  near : Within 4000000000 l.end;
+  onward : end_from l.control (l.count - l.counter) ≡ end_from l.initial.control l.count;
+}
