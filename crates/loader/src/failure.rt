@@ -19,7 +19,7 @@ impl Failure {
         ensures { result ≡ refusal_in self.now }
     {
         match self {
-            Failure::Unreadable(unreadable) => Some(unreadable.refusal()),
+            Failure::Unreadable(unreadable) => Some(Refusal::from(*unreadable)),
             Failure::Refused(refusal, _) => Some(*refusal),
             Failure::Memory => None,
         }

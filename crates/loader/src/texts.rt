@@ -7,7 +7,7 @@ use crate::failure::Failure;
 use program::{Target, load};
 use refusal::Failed;
 use std::alloc::Global;
-use text::{ReadError, read};
+use text::read;
 
 // The targets that a text says, where there are no more than `most`.
 pub fn targets(heap: Global, text: &[u8], most: u64) -> Result<Vec<Target>, Failure>
@@ -15,8 +15,8 @@ pub fn targets(heap: Global, text: &[u8], most: u64) -> Result<Vec<Target>, Fail
 {
     let nodes = match read(heap, text) {
         Ok(nodes) => nodes,
-        Err(ReadError::Unreadable(unreadable)) => return Err(Failure::Unreadable(unreadable)),
-        Err(ReadError::Memory) => return Err(Failure::Memory),
+        Err(Failed::Refused(unreadable)) => return Err(Failure::Unreadable(unreadable)),
+        Err(Failed::Memory) => return Err(Failure::Memory),
     };
     match load(heap, &nodes, most) {
         Ok(targets) => Ok(targets),
