@@ -10,14 +10,12 @@ use Rattle.std.specs.declared.alloc.Global.{Global}
 use Rattle.refusal.specs.declared.Refusal as refusal
 use Rattle.refusal.specs.declared.Refusal.TheVariants.{Text}
 use Rattle.refusal.specs.declared.failed.Failed.{Failed}
-use Rattle.refusal.specs.declared.failed.Failed.TheVariants as load
+use Rattle.refusal.specs.declared.failed.Failed.TheVariants as failed
 use Rattle.program.specs.Answers.{refusal_of, said}
 use Rattle.program.specs.declared.target.Target.{Target}
 use Rattle.work.specs.Works.{begun}
 use Rattle.control.specs.Controls.{load_of, origin}
 use Rattle.control.specs.declared.control.Control.{Control}
-use Rattle.text.specs.declared.error.ReadError.{ReadError}
-use Rattle.text.specs.declared.error.ReadError.TheVariants as read
 use Rattle.text.specs.declared.error.Unreadable as unreadable
 use Rattle.loader.specs.declared.failure.Failure.{Failure}
 use Rattle.loader.specs.declared.failure.Failure.TheVariants.{Unreadable, Refused, Memory}
@@ -28,9 +26,9 @@ Says x most (Err (Unreadable u)) = x ≡ Err u
 Says x most (Err (Refused e v)) = (x ≡ Ok (vec_items v)) × (refusal_of (vec_items v) most ≡ Some e)
 Says x most (Err Memory) = Unit {0}
 
-abbrev pub failure_of : ReadError → Failure
-failure_of (read.Unreadable u) = Unreadable u
-failure_of read.Memory = Memory
+abbrev pub failure_of : Failed unreadable.Unreadable → Failure
+failure_of (failed.Refused u) = Unreadable u
+failure_of failed.Memory = Memory
 
 abbrev pub refusal_in : Failure → Option refusal.Refusal
 refusal_in (Unreadable u) = Some (Text u.line)
@@ -50,8 +48,8 @@ pub record TurnsAway (xs : List ℤ) (most a t : ℕ) (e : refusal.Refusal) : Ty
 
 abbrev pub LoadsNodes : List ℤ → (most a t : ℕ) → Result Control (Failed refusal.Refusal) → Type 0
 LoadsNodes xs most a t (Ok c) = LoadsWith xs most a t c
-LoadsNodes xs most a t (Err (load.Refused e)) = TurnsAway xs most a t e
-LoadsNodes xs most a t (Err load.Memory) = Unit {0}
+LoadsNodes xs most a t (Err (failed.Refused e)) = TurnsAway xs most a t e
+LoadsNodes xs most a t (Err failed.Memory) = Unit {0}
 
 abbrev pub LoadsText : Result (List ℤ) unreadable.Unreadable → (most a t : ℕ) → Result Control Failure → Type 0
 LoadsText x most a t (Ok c) = (xs : List ℤ) × (x ≡ Ok xs) × LoadsWith xs most a t c

@@ -2,10 +2,10 @@
 ghost use Rattle.std.specs.Prelude.{◌≡◌};
 ghost use Rattle.loader.specs.Texts.{refusal_in, failure_of};
 
-use refusal::Refusal;
-use text::{ReadError, Unreadable};
+use refusal::{Failed, Refusal};
+use text::Unreadable;
 
-// No `Failed`: `?` turns the reader's failures into this, and a `From` for `Failed` may stand only in its own crate.
+// Not a `Failed`: `?` makes it of the reader's failures, and only the crate of `Failed` may say how one is made of another.
 #[derive(Drop)]
 pub enum Failure {
     Unreadable(Unreadable),
@@ -20,20 +20,20 @@ impl Failure {
         ensures { result ≡ refusal_in self.now }
     {
         match self {
-            Failure::Unreadable(unreadable) => Some(unreadable.refusal()),
+            Failure::Unreadable(unreadable) => Some(Refusal::from(*unreadable)),
             Failure::Refused(refusal, _) => Some(*refusal),
             Failure::Memory => None,
         }
     }
 }
 
-impl From<ReadError> for Failure {
+impl From<Failed<Unreadable>> for Failure {
     ghost from_gives = { λ e r. r ≡ failure_of e };
 
-    fn from(error: ReadError) -> Failure {
-        match error {
-            ReadError::Unreadable(unreadable) => Failure::Unreadable(unreadable),
-            ReadError::Memory => Failure::Memory,
+    fn from(failed: Failed<Unreadable>) -> Failure {
+        match failed {
+            Failed::Refused(unreadable) => Failure::Unreadable(unreadable),
+            Failed::Memory => Failure::Memory,
         }
     }
 }

@@ -50,7 +50,7 @@ fn print(rt: &HostRuntime, targets: &[Target]) -> anyhow::Result<()> {
 fn tell(rt: &HostRuntime, text: &[u8], failure: &Failure) -> anyhow::Result<()> {
     match failure {
         Failure::Unreadable(unreadable) => {
-            let number = unreadable.refusal().number();
+            let number = Refusal::from(*unreadable).number();
             let line = unreadable.line;
             let words = explain(rt.alloc(), text, *unreadable)?;
             eprintln!(rt; "refused {number} {line}: {words}")?;

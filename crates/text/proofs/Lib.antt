@@ -1,4 +1,3 @@
-mod Drafts
 pub mod Rows
 mod Scans
 mod Taken

@@ -1,6 +1,6 @@
 -- What the contracts of reading cite: the words of a text, taken one by one. Assumes nothing.
 --   Held                   what is read so far: the nodes, the node of the lines of this block, the open blocks, innermost
---                          first, and the node of each sub-program's body; held_of says it of a draft
+--                          first, and the node of each sub-program's body
 --   added                  numbers come behind the nodes
 --   put_line, begun        a line's node is put behind the lines before it; a block is opened
 --   closed                 a `}`: the innermost block's line is put
@@ -10,14 +10,13 @@
 --   expected_of            what could stand there
 --   reads                  words taken one by one: the nodes, or the first that can't stand where it stands
 --   read                   a text's nodes, or where it can't be read and what was expected there
-use Rattle.std.specs.Prelude.{◌≡◌, ℕ, Bool, true, false, cond, not, ◌&&◌, List, [], ◌∷◌, ◌++◌, reverse, length, take, ℤ, pos, is_some, Some, None, Ok, Err, vec_items, Option, Result, Vec, ◌==◌, nat_lt, slice_index_or}
+use Rattle.std.specs.Prelude.{◌≡◌, ℕ, Bool, true, false, cond, not, ◌&&◌, List, [], ◌∷◌, ◌++◌, length, take, ℤ, pos, is_some, Some, None, Ok, Err, vec_items, Option, Result, Vec, ◌==◌, nat_lt, slice_index_or}
 use Rattle.std.specs.Option.{ok_or}
 use Rattle.std.specs.declared.alloc.Global.{Global}
 use Rattle.count.specs.Counts.{size}
 use Rattle.refusal.specs.declared.failed.Failed.{Failed}
 use Rattle.refusal.specs.declared.failed.Failed.TheVariants.{Refused, Memory}
 use Rattle.word.specs.Lines.{feeds}
-use Rattle.text.specs.declared.draft.Draft.{Draft}
 use Rattle.text.specs.declared.draft.Opened.{Opened}
 use Rattle.text.specs.declared.error.Expected.{Expected}
 use Rattle.text.specs.declared.error.Expected.TheVariants as expected
@@ -41,9 +40,6 @@ pub record Held : Type 0 where
   pub laid : Laid
   pub blocks : List Opened
   pub subs : List ℤ
-
-abbrev pub held_of : Draft → Held
-held_of d = record { laid = record { nodes = vec_items d.nodes; last = d.last }; blocks = reverse (vec_items d.blocks); subs = vec_items d.subs }
 
 abbrev pub empty : Held
 empty = record { laid = record { nodes = []; last = None }; blocks = []; subs = [] }

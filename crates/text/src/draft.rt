@@ -2,7 +2,7 @@
 ghost use Rattle.std.specs.Prelude.{◌≡◌, IfOk, OnOk};
 ghost use Rattle.count.specs.Counts.{size};
 ghost use Rattle.text.specs.Nodes.{next_node, numbers_of, body_of};
-ghost use Rattle.text.specs.Reading.{held_of, Stepped, Finished};
+ghost use Rattle.text.specs.Reading.{Stepped, Finished};
 ghost use Rattle.text.specs.Reading.{empty, added, put_line, begun, bodied, outside, fresh, ended, closed, named, expected_of, at_end};
 
 use crate::error::{Expected, Misplaced};
@@ -11,6 +11,7 @@ use crate::phase::{Head, Phase};
 use count::count;
 use refusal::Failed;
 use std::alloc::{AllocError, Global};
+use std::marker::Model;
 
 // An open block, and the node of the lines before it.
 #[derive(Clone, Copy)]
@@ -19,20 +20,30 @@ pub struct Opened {
     pub before: Option<i64>,
 }
 
+// Clauses see what is held.
 #[derive(Drop)]
 pub struct Draft {
     // Four numbers each.
-    pub nodes: Vec<i64>,
+    nodes: Vec<i64>,
     // The node of the lines so far in this block.
-    pub last: Option<i64>,
-    pub blocks: Vec<Opened>,
+    last: Option<i64>,
+    blocks: Vec<Opened>,
     // The node of each sub-program's body.
-    pub subs: Vec<i64>,
+    subs: Vec<i64>,
+}
+
+impl Model for Draft {
+    ghost use Rattle.std.specs.Prelude.{reverse, vec_items};
+    ghost use Rattle.text.specs.Reading.{Held};
+
+    ghost Value = { Held };
+
+    ghost view = { λ d. record { laid = record { nodes = vec_items d.nodes; last = d.last }; blocks = reverse (vec_items d.blocks); subs = vec_items d.subs } };
 }
 
 impl Draft {
     pub fn new(heap: Global) -> Draft
-        ensures { held_of result ≡ empty }
+        ensures { result ≡ empty }
     {
         Draft {
             nodes: Vec::new(heap),
@@ -44,8 +55,8 @@ impl Draft {
 
     // A node behind all others, and its number.
     fn add(&mut self, node: Node) -> Result<i64, AllocError>
-        ensures value { IfOk result (λ n. n ≡ next_node self.old.nodes.items) }
-        ensures after { OnOk result (held_of self.new ≡ added (numbers_of node) (held_of self.old)) }
+        ensures value { IfOk result (λ n. n ≡ next_node self.old.laid.nodes) }
+        ensures after { OnOk result (self.new ≡ added (numbers_of node) self.old) }
     {
         let this = (self.nodes.len() / 4) as i64;
         self.nodes.extend_from_slice(&<[i64; 4]>::from(node))?;
@@ -54,7 +65,7 @@ impl Draft {
 
     // A line's node, joined to the lines before it.
     pub fn put(&mut self, node: Node) -> Result<(), AllocError>
-        ensures { OnOk result (held_of self.new ≡ put_line (numbers_of node) (held_of self.old)) }
+        ensures { OnOk result (self.new ≡ put_line (numbers_of node) self.old) }
     {
         let this = self.add(node)?;
         self.last = match self.last {
@@ -66,8 +77,8 @@ impl Draft {
 
     // The node of the lines so far; where there are none, one that says nothing.
     fn body(&mut self) -> Result<i64, AllocError>
-        ensures value { IfOk result (λ n. n ≡ body_of (held_of self.old).laid) }
-        ensures after { OnOk result (held_of self.new ≡ bodied (held_of self.old)) }
+        ensures value { IfOk result (λ n. n ≡ body_of self.old.laid) }
+        ensures after { OnOk result (self.new ≡ bodied self.old) }
     {
         match self.last {
             Some(node) => Ok(node),
@@ -76,7 +87,7 @@ impl Draft {
     }
 
     pub fn open(&mut self, head: Head) -> Result<(), AllocError>
-        ensures { OnOk result (held_of self.new ≡ begun head (held_of self.old)) }
+        ensures { OnOk result (self.new ≡ begun head self.old) }
     {
         let before = self.last;
         self.blocks.push(Opened { head, before })?;
@@ -86,21 +97,21 @@ impl Draft {
 
     // Whether no block is open.
     fn is_outside(&self) -> bool
-        ensures { result ≡ outside (held_of self.now).blocks }
+        ensures { result ≡ outside self.now.blocks }
     {
         self.blocks.is_empty()
     }
 
     // Whether no line has begun, outside of all blocks.
     fn is_fresh(&self) -> bool
-        ensures { result ≡ fresh (held_of self.now) }
+        ensures { result ≡ fresh self.now }
     {
         self.is_outside() && self.last.is_none()
     }
 
     // What a block says, once its body's node is known.
     fn end_block(&mut self, head: Head, body: i64) -> Result<(), AllocError>
-        ensures { OnOk result (held_of self.new ≡ ended head body (held_of self.old)) }
+        ensures { OnOk result (self.new ≡ ended head body self.old) }
     {
         match head {
             Head::Lines(block) => self.put(Node::Lines(block, body)),
@@ -113,7 +124,7 @@ impl Draft {
 
     // Ends the innermost block: its line comes behind the lines before it.
     pub fn close(&mut self) -> Result<Phase, Failed<Misplaced>>
-        ensures { Stepped (closed (held_of self.old).blocks (held_of self.old)) result (held_of self.old) (held_of self.new) }
+        ensures { Stepped (closed self.old.blocks self.old) result self.old self.new }
     {
         let opened = self.blocks.pop().ok_or(Misplaced)?;
         let body = self.body()?;
@@ -124,7 +135,7 @@ impl Draft {
 
     // What may follow `sub` and a name: a sub-program uses only those before it.
     pub fn name(&self, name: i64) -> Result<Phase, Failed<Misplaced>>
-        ensures { Stepped (named (size name) (held_of self.now)) result (held_of self.now) (held_of self.now) }
+        ensures { Stepped (named (size name) self.now) result self.now self.now }
     {
         let name = count(name) as usize;
         match self.subs.get(name) {
@@ -138,7 +149,7 @@ impl Draft {
 
     // What could stand next.
     pub fn expected(&self, phase: Phase) -> Expected
-        ensures { result ≡ expected_of phase (held_of self.now) }
+        ensures { result ≡ expected_of phase self.now }
     {
         match phase {
             Phase::Line if self.is_outside() => Expected::Line,
@@ -155,7 +166,7 @@ impl Draft {
 
     // The whole program's nodes, where the text may end.
     pub fn finish(mut self, phase: Phase) -> Result<Vec<i64>, Failed<Misplaced>>
-        ensures { Finished (at_end phase (held_of self)) result }
+        ensures { Finished (at_end phase self) result }
     {
         match phase {
             Phase::Line if self.is_outside() => {

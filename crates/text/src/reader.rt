@@ -1,7 +1,7 @@
 // Words taken one by one, each by what may stand there.
 ghost use Rattle.std.specs.Prelude.{◌≡◌, ◌+◌, ◌≤◌, length};
 ghost use Rattle.text.specs.Nodes.{numbers_of};
-ghost use Rattle.text.specs.Reading.{held_of, Stepped, on_line, begins, line_ends, step, read, Answers, error_of, unreadable};
+ghost use Rattle.text.specs.Reading.{Stepped, on_line, begins, line_ends, step, read, Answers, error_of, unreadable};
 ghost use Rattle.text.specs.Taking.{found_at};
 
 use crate::draft::Draft;
@@ -17,7 +17,7 @@ use word::line_feeds;
 impl Draft {
     // The first word of a line, or the end of a block.
     fn begin(&mut self, token: Token) -> Result<Phase, Failed<Misplaced>>
-        ensures { Stepped (on_line token (held_of self.old)) result (held_of self.old) (held_of self.new) }
+        ensures { Stepped (on_line token self.old) result self.old self.new }
     {
         match token {
             Token::Number(n) => Ok(Phase::Count(n)),
@@ -27,7 +27,7 @@ impl Draft {
     }
 
     fn begin_with(&mut self, key: Key) -> Result<Phase, Failed<Misplaced>>
-        ensures { Stepped (begins key (held_of self.old)) result (held_of self.old) (held_of self.new) }
+        ensures { Stepped (begins key self.old) result self.old self.new }
     {
         match key {
             Key::To => Ok(Phase::MoveX(Move::Absolute)),
@@ -43,7 +43,7 @@ impl Draft {
 
     // The `;` of a line, whose node is then complete.
     fn end_line(&mut self, token: Token, node: Node) -> Result<Phase, Failed<Misplaced>>
-        ensures { Stepped (line_ends token (numbers_of node) (held_of self.old)) result (held_of self.old) (held_of self.new) }
+        ensures { Stepped (line_ends token (numbers_of node) self.old) result self.old self.new }
     {
         token.expect(Key::Semicolon)?;
         self.put(node)?;
@@ -52,7 +52,7 @@ impl Draft {
 
     // What a word leads to, in a phase.
     pub fn step(&mut self, phase: Phase, token: Token) -> Result<Phase, Failed<Misplaced>>
-        ensures { Stepped (step token phase (held_of self.old)) result (held_of self.old) (held_of self.new) }
+        ensures { Stepped (step token phase self.old) result self.old self.new }
     {
         match phase {
             Phase::Line => self.begin(token),

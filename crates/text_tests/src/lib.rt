@@ -5,10 +5,11 @@
 #[cfg(test)]
 mod tests {
     use listing::{Line, write};
+    use refusal::{Failed, Refusal};
     use std::alloc::Global;
     use std::process::Abort;
     use std::test::Fail;
-    use text::{Block, Move, ReadError, read};
+    use text::{Block, Move, read};
     use text_message::explain;
 
     // What is read must be these nodes.
@@ -32,10 +33,10 @@ mod tests {
     ) -> Result<(), Fail> {
         match read(heap, text) {
             Ok(_) => Err(Fail::new("it is read")),
-            Err(ReadError::Memory) => Err(Fail::new("no memory")),
-            Err(ReadError::Unreadable(fault)) => {
+            Err(Failed::Memory) => Err(Fail::new("no memory")),
+            Err(Failed::Refused(fault)) => {
                 assert_eq!(rt; fault.line, line);
-                assert_eq!(rt; fault.refusal().place(), line);
+                assert_eq!(rt; Refusal::from(fault).place(), line);
                 let told = explain(heap, text, fault)?;
                 assert_eq!(rt; told.as_str(), words);
                 Ok(())

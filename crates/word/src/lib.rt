@@ -26,14 +26,8 @@ pub fn number(word: &[u8]) -> Option<i64>
     ensures { result ≡ number_of word.now }
 {
     match word {
-        [b'-', digits @ ..] => match unsigned(digits) {
-            Some(n) => Some(negated(n)),
-            None => None,
-        },
-        digits => match unsigned(digits) {
-            Some(n) => Some(cut(n)),
-            None => None,
-        },
+        [b'-', digits @ ..] => unsigned(digits).map(negated),
+        digits => unsigned(digits).map(cut),
     }
 }
 
@@ -46,7 +40,7 @@ fn unsigned(digits: &[u8]) -> Option<u64>
     }
     let mut n: u64 = 0;
     for d in digits {
-        if *d < b'0' || *d > b'9' {
+        if !d.is_ascii_digit() {
             return None;
         }
         n = n.saturating_mul(10).saturating_add(u64::from(*d - b'0'));
@@ -57,11 +51,11 @@ fn unsigned(digits: &[u8]) -> Option<u64>
 fn cut(n: u64) -> i64
     ensures { result ≡ up n }
 {
-    if n < 1 << 63 { n as i64 } else { i64::MAX }
+    i64::try_from(n).unwrap_or(i64::MAX)
 }
 
 fn negated(n: u64) -> i64
     ensures { result ≡ down n }
 {
-    if n < 1 << 63 { -(n as i64) } else { i64::MIN }
+    i64::try_from(n).map_or(i64::MIN, |n| -n)
 }

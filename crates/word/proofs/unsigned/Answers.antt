@@ -4,19 +4,14 @@ use Rattle.std.proofs.lemmas.Int.Digits.{digits_value_more, digits_more}
 use Rattle.std.proofs.lemmas.List.{take_all}
 use Rattle.word.proofs.Numbers.{magnitude_all, magnitude_none, digit_value}
 use Rattle.word.proofs.unsigned.Goals as goal
-use Rattle.word.proofs.unsigned.Goals.{then-d-lt48-via-then-d-lt48, then-d-lt48-via-else-d-lt48+then-d-gt57}
 
-pub returns-then-d-lt48 : goal.returns-then-d-lt48
-returns-then-d-lt48 c =
-    sym (magnitude_none c.args.digits.now c.loop-d.d-index (omega arith) (λ d. elim c.then-d-lt48.branch [
-      | then-d-lt48-via-then-d-lt48 w ↦ omega arith
-      | then-d-lt48-via-else-d-lt48+then-d-gt57 w ↦ omega arith
-    ]))
+pub returns-then-not-is_ascii_digit : goal.returns-then-not-is_ascii_digit
+returns-then-not-is_ascii_digit c = sym (magnitude_none c.args.digits.now c.loop-d.d-index (omega arith) (sym c.if-not-is_ascii_digit.ensures.value))
 
 pub loop-d-preserved : goal.loop-d-preserved
 loop-d-preserved c =
     let h : c.loop-d.d-index < length c.args.digits.now = omega arith in
-    let d = digit_value (get_or c.args.digits.now c.loop-d.d-index 0) (omega arith) in
+    let d = digit_value (get_or c.args.digits.now c.loop-d.d-index 0) (sym c.if-not-is_ascii_digit.ensures.value) in
     (rw (digits_value_more 10 c.args.digits.now c.loop-d.d-index h) (omega arith), digits_more 10 _ _ h c.loop-d.invariant.1 (omega arith))
 
 pub returns : goal.returns
