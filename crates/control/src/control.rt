@@ -51,7 +51,8 @@ impl Control {
         })
     }
 
-    // A tick, and the pulses that it gives.
+    // A tick, and the pulses that it gives. It goes toward a target and not toward an option of one, which would be copied
+    // with its padding, several ns a tick (docs/PERFORMANCE.md).
     pub fn tick(&mut self) -> Pulses
         ensures happened { Happened self.old Tick self.new }
         ensures pulses { result ≡ pulses self.old.machine self.old.targets Tick self.old.work }

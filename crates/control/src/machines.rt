@@ -7,7 +7,8 @@ use work::Machine;
 
 const MOST: u64 = 1_000_000;
 
-// A machine with this change and top speed, each 1 to 1,000,000, or its refusal.
+// A machine with this change and top speed, each 1 to 1,000,000, or its refusal. The two stay two numbers until they come
+// here: a struct of unchecked ones would be a second machine.
 pub fn machine(change: u64, top: u64) -> Result<Machine, Refusal>
     ensures { result ≡ machine_of change top }
 {

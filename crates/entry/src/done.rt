@@ -1,4 +1,4 @@
-// What an event on lent numbers answers.
+// What an event on lent numbers answers. No `Result`: the shop fixed this form.
 use refusal::Refusal;
 
 #[derive(Clone, Copy)]

@@ -5,7 +5,8 @@ use crate::done::Done;
 use crate::memory::memory_of;
 use crate::request::Request;
 
-// Does an event on the work in memory: everything is checked first, and only then is memory written.
+// Does an event on the work in memory: everything is checked first, and only then is memory written. Numbers and slices,
+// and a `Done`: the shop fixed this signature.
 pub fn happen(
     change: u64,
     top: u64,

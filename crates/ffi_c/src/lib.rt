@@ -4,11 +4,9 @@
 #![tactic(auto)]
 
 ghost use Rattle.std.specs.Prelude.{◌≡◌, ◌/◌, length};
-ghost use Rattle.entry.specs.Entries.{targets_in, work_in, event_of, refusal_of as event_refusal};
-ghost use Rattle.ffi.specs.Calls.{code_of, said_place, place_after, moved_after, memory_after};
+ghost use Rattle.entry.specs.Entries.{refusal_of as event_refusal};
+ghost use Rattle.ffi.specs.Calls.{code_of, said_place, place_after, pulses_of, work_after, moved_after, memory_after};
 ghost use Rattle.program.specs.Answers.{refusal_of, room_after, said};
-ghost use Rattle.pulses.specs.Motors.{pulses};
-ghost use Rattle.work.specs.Works.{happens};
 
 // Writes the targets that a program says into the room, three numbers each, and how many there are into `place`.
 #[unsafe(no_mangle)]
@@ -35,8 +33,8 @@ pub extern "C" fn mill_happen(
 ) -> u64
     ensures code { result ≡ code_of (event_refusal change top targets.now memory.old kind number) }
     ensures place { place.new ≡ place_after (event_refusal change top targets.now memory.old kind number) place.old }
-    ensures moved { moved.new ≡ moved_after (event_refusal change top targets.now memory.old kind number) (pulses (record { change = change; top = top }) (targets_in targets.now) (event_of kind number) (work_in memory.old)).x (pulses (record { change = change; top = top }) (targets_in targets.now) (event_of kind number) (work_in memory.old)).y moved.old }
-    ensures memory { memory.new ≡ memory_after (event_refusal change top targets.now memory.old kind number) (happens (record { change = change; top = top }) (targets_in targets.now) (event_of kind number) (work_in memory.old)) memory.old }
+    ensures moved { let d = pulses_of change top targets.now memory.old kind number in moved.new ≡ moved_after (event_refusal change top targets.now memory.old kind number) d.x d.y moved.old }
+    ensures memory { memory.new ≡ memory_after (event_refusal change top targets.now memory.old kind number) (work_after change top targets.now memory.old kind number) memory.old }
 {
     ffi::mill_happen(change, top, targets, memory, kind, number, moved, place)
 }

@@ -18,7 +18,8 @@ use std::alloc::Global;
 // What a run returns where there is not enough memory for the targets.
 const NO_MEMORY: u64 = u64::MAX;
 
-// Loads a program that says at most so many targets, makes so many ticks, and writes the sum of all pulses into `moved`.
+// Loads a program that says at most so many targets, makes so many ticks, and writes the sum of all pulses into `moved`. The C
+// interface fixed the form.
 pub fn mill_run(
     heap: Global,
     change: u64,
