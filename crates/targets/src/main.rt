@@ -9,7 +9,7 @@ use program::Target;
 use refusal::Refusal;
 use std::io::{Read, Write};
 use std::process::ExitCode;
-use text_message::explain;
+use text_message::TextSentence;
 
 // How many targets there is room for.
 const MOST: u64 = 1 << 24;
@@ -52,8 +52,11 @@ fn tell(rt: &HostRuntime, text: &[u8], failure: &Failure) -> anyhow::Result<()> 
         Failure::Unreadable(unreadable) => {
             let number = Refusal::from(*unreadable).number();
             let line = unreadable.line;
-            let words = explain(rt.alloc(), text, *unreadable)?;
-            eprintln!(rt; "refused {number} {line}: {words}")?;
+            let sentence = TextSentence {
+                text,
+                fault: *unreadable,
+            };
+            eprintln!(rt; "refused {number} {line}: {sentence}")?;
         }
         Failure::Refused(refusal, numbers) => {
             let sentence = ProgramSentence(*refusal, found(*refusal, numbers));

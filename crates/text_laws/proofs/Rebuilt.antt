@@ -1,15 +1,18 @@
 -- A tree's nodes lead back to that tree. Assumes nothing.
-use Rattle.std.proofs.Common.{◌≡◌, ℕ, ◌+◌, ◌*◌, ◌/◌, ◌<◌, ◌≤◌, Bool, true, false, cond, List, [], ◌∷◌, ◌++◌, map, reverse, length, get_or, ℤ, pos, negsuc, Some, None, Option, sym, refl, ap, ◌∙◌, subst, inl, inr, arith}
+use Rattle.std.proofs.Common.{◌≡◌, ℕ, ◌+◌, ◌*◌, ◌/◌, ◌<◌, ◌≤◌, Bool, true, false, cond, List, [], ◌∷◌, ◌++◌, map, reverse, length, get_or, ℤ, pos, Some, None, Option, sym, refl, ap, ◌∙◌, subst, inl, inr, arith}
 use Rattle.std.proofs.lemmas.List.{append_assoc, append-nil, length-append, length_push, reverse-append, reverse-reverse, get_or_append_left, get_or_push, map_push}
-use Rattle.std.proofs.lemmas.Bool.{eq-eqb, ne_eqb, cases_lt}
+use Rattle.std.proofs.lemmas.Bool.{false_from_ne_true, cases_lt}
+use Rattle.std.proofs.lemmas.Bool.Decides.{Decides-int_eq}
 use Rattle.text.specs.declared.phase.Block.{Block}
 use Rattle.text.specs.declared.phase.Block.TheVariants.{Repeat, Offset, Turned, Mirrored}
 use Rattle.text.specs.declared.phase.Move.TheVariants.{Absolute, Incremental}
 use Rattle.text.specs.Nodes.{Laid, next_node, node, joined, with_line, body_named, body_filled, body_of, body_nodes, block_node}
 use Rattle.text_laws.specs.Trees.{Tree, done, go, call, block, Program, ProperTree, ProperSubs, Proper, anew, with_block, lay, Told, tell, tell_all, told, nodes_of}
-use Rattle.word.specs.Numbers.{mapped}
+use Rattle.std.specs.Option.{option_map, option_and_then}
+use Rattle.std.specs.Ordering.{int_eq}
+use Rattle.std.proofs.lemmas.Cmp.{int_eq_equiv}
 use Rattle.text_laws.proofs.Built.{length_told}
-use Rattle.text_laws.specs.Rebuilding.{Part, part, then, same, place_of, push_node, onward, rebuilt, program_of}
+use Rattle.text_laws.specs.Rebuilding.{Part, part, then, place_of, push_node, rebuilt, program_of}
 
 then_done : (t : Tree) → then t done ≡ t
 unfolding then
@@ -24,10 +27,6 @@ then_assoc done u v = refl
 then_assoc (go m x y speed t) u v = ap (go m x y speed) (then_assoc t u v)
 then_assoc (call k t) u v = ap (call k) (then_assoc t u v)
 then_assoc (block b body t) u v = ap (block b body) (then_assoc t u v)
-
-same_self : (a : ℤ) → same a a ≡ true
-same_self (pos n) = eq-eqb n n refl
-same_self (negsuc n) = eq-eqb n n refl
 
 -- nodes are four numbers each
 abbrev Quads : List ℤ → Type 0
@@ -62,7 +61,7 @@ goes_node ns k a b c ps qs q e =
       more = node k a b c;
       is = refl;
       quads = m.0;
-      leads = λ rest. ap (λ (o : Option (List Part)). onward o (λ rs. rebuilt (length ns / 4 + 1) rest rs)) e ∙ ap (λ (n : ℕ). rebuilt n rest qs) (sym m.1);
+      leads = λ rest. ap (λ (o : Option (List Part)). option_and_then (λ rs. rebuilt (length ns / 4 + 1) rest rs) o) e ∙ ap (λ (n : ℕ). rebuilt n rest qs) (sym m.1);
     }
 
 -- what waits while lines are laid: those so far, on the parts before them
@@ -83,7 +82,7 @@ goes_line (Some s) ns k a b c u one ps qs q f e =
     let first = goes_node ns k a b c qs (part (next_node ns) one ∷ part s u ∷ ps) q e in
     goes_on ns (ns ++ node k a b c) _ qs (part (next_node ns) one ∷ part s u ∷ ps) _ first
     (goes_node (ns ++ node k a b c) (pos 3) s (next_node ns) (pos 0) (part (next_node ns) one ∷ part s u ∷ ps) _ first.quads
-    (rw (same_self s, same_self (next_node ns))))
+    (rw (int_eq_equiv.refl s, int_eq_equiv.refl (next_node ns))))
 
 -- the sub-programs' parts are found by their nodes, wherever in the stack they wait
 Knows : List ℤ → List Part → Type 0
@@ -92,9 +91,9 @@ Knows subs ps = (k : ℕ) → k < length subs → place_of (get_or subs k (pos 0
 place_append : (a : ℤ) (ps qs : List Part) (k : ℕ) → place_of a ps ≡ Some k → place_of a (ps ++ qs) ≡ Some k
 unfolding place_of
 place_append a [] qs k e = absurd (let z : ◌≡◌ {A = ℕ} 0 1 = cc in omega arith)
-place_append a (p ∷ ps) qs k e = goes (same p.name a) (place_of a ps) (place_of a (ps ++ qs)) (λ j. place_append a ps qs j) e
+place_append a (p ∷ ps) qs k e = goes (int_eq p.name a) (place_of a ps) (place_of a (ps ++ qs)) (λ j. place_append a ps qs j) e
   where
-    goes : (b : Bool) (o q : Option ℕ) → ((j : ℕ) → o ≡ Some j → q ≡ Some j) → cond b (Some 0) (mapped (λ j. j + 1) o) ≡ Some k → cond b (Some 0) (mapped (λ j. j + 1) q) ≡ Some k
+    goes : (b : Bool) (o q : Option ℕ) → ((j : ℕ) → o ≡ Some j → q ≡ Some j) → cond b (Some 0) (option_map (λ j. j + 1) o) ≡ Some k → cond b (Some 0) (option_map (λ j. j + 1) q) ≡ Some k
     goes true o q h e = e
     goes false None q h e = absurd (let z : ◌≡◌ {A = ℕ} 0 1 = cc in omega arith)
     goes false (Some j) q h e = rw (h j refl) e
@@ -118,10 +117,10 @@ goes_body None ns u ps q f =
 goes_body (Some s) ns u ps q f = goes_none ns (part s u ∷ ps) q
 
 goes_block : (b : Block) (body : ℤ) (last : Option ℤ) (ns : List ℤ) (t u : Tree) (ps : List Part) → Quads ns → SoFar last u → Goes ns (part body t ∷ stacked last u ps) (joined last ns (block_node b body)).nodes (stacked (joined last ns (block_node b body)).last (then u (block b t done)) ps)
-goes_block (Repeat n) body last ns t u ps q f = goes_line last ns (pos 4) n body (pos 0) u (block (Repeat n) t done) ps (part body t ∷ stacked last u ps) q f (rw (same_self body))
-goes_block (Offset x y) body last ns t u ps q f = goes_line last ns (pos 5) x y body u (block (Offset x y) t done) ps (part body t ∷ stacked last u ps) q f (rw (same_self body))
-goes_block Turned body last ns t u ps q f = goes_line last ns (pos 6) body (pos 0) (pos 0) u (block Turned t done) ps (part body t ∷ stacked last u ps) q f (rw (same_self body))
-goes_block Mirrored body last ns t u ps q f = goes_line last ns (pos 7) body (pos 0) (pos 0) u (block Mirrored t done) ps (part body t ∷ stacked last u ps) q f (rw (same_self body))
+goes_block (Repeat n) body last ns t u ps q f = goes_line last ns (pos 4) n body (pos 0) u (block (Repeat n) t done) ps (part body t ∷ stacked last u ps) q f (rw (int_eq_equiv.refl body))
+goes_block (Offset x y) body last ns t u ps q f = goes_line last ns (pos 5) x y body u (block (Offset x y) t done) ps (part body t ∷ stacked last u ps) q f (rw (int_eq_equiv.refl body))
+goes_block Turned body last ns t u ps q f = goes_line last ns (pos 6) body (pos 0) (pos 0) u (block Turned t done) ps (part body t ∷ stacked last u ps) q f (rw (int_eq_equiv.refl body))
+goes_block Mirrored body last ns t u ps q f = goes_line last ns (pos 7) body (pos 0) (pos 0) u (block Mirrored t done) ps (part body t ∷ stacked last u ps) q f (rw (int_eq_equiv.refl body))
 
 -- lines are laid behind those so far, and lead to all of them
 record Leads (l m : Laid) (u v : Tree) (ps : List Part) : Type 0 where
@@ -226,12 +225,12 @@ below_push : (n n' : ℕ) (ps : List Part) (p : Part) → n ≤ n' → Below n p
 below_push n n' [] p le h m e lt = ((m, e, lt), tt)
 below_push n n' (q ∷ ps) p le h m e lt = ((h.0.0, h.0.1, omega (arith, h.0.2)), below_push n n' ps p le h.1 m e lt)
 
-apart : (x y : ℤ) (m n : ℕ) → x ≡ pos m → y ≡ pos n → m < n → same x y ≡ false
-apart x y m n e f lt = rw (e, f) (ne_eqb m n (λ g. omega arith))
+apart : (x y : ℤ) (m n : ℕ) → x ≡ pos m → y ≡ pos n → m < n → int_eq x y ≡ false
+apart x y m n e f lt = false_from_ne_true (int_eq x y) (λ t. let same : x ≡ y = (Decides-int_eq x y).0 t in let g : m ≡ n = cc in omega arith)
 
 place_last : (n : ℕ) (ps : List Part) (b : ℤ) (t : Tree) (m : ℕ) → Below n ps → b ≡ pos m → n ≤ m → place_of b (ps ++ part b t ∷ []) ≡ Some (length ps)
 unfolding place_of
-place_last n [] b t m h e le = rw (same_self b)
+place_last n [] b t m h e le = rw (int_eq_equiv.refl b)
 place_last n (p ∷ ps) b t m h e le =
     let one = place_last n ps b t m h.1 e le in
     rw (apart p.name b h.0.0 m h.0.1 e (omega (arith, h.0.2)), one) (ap Some (omega arith))

@@ -18,7 +18,8 @@ use Rattle.text.specs.declared.token.Key.TheVariants.{To, By, Fast, Times, At, T
 use Rattle.text.specs.declared.token.Token.{Token}
 use Rattle.text.specs.declared.token.Token.TheVariants.{Number, Word}
 use Rattle.text_laws.specs.Trees.{Small, SmallBlock}
-use Rattle.word.specs.Numbers.{magnitude, mapped, number_of, up, down}
+use Rattle.std.specs.Option.{option_map}
+use Rattle.word.specs.Numbers.{magnitude, number_of, up, down}
 use Rattle.text.specs.Words.{kind, token_of, by_kind}
 use Rattle.listing.specs.Writing.{line_text, indented, whole_line, written, depth_after}
 use Rattle.text_laws.proofs.Alone.{toks, flushed}
@@ -67,7 +68,7 @@ decimal_magnitude n h =
     magnitude_all (decimal n) (decimal_nonempty n h) r.0.1 ∙ ap Some (ap (λ (v : ℕ). min v (2 ^ 64 - 1)) r.1 ∙ omega arith)
 
 plain_number : (c : ℕ) (cs : List ℕ) (n : ℕ) → IsInRange 48 57 c → magnitude (c ∷ cs) ≡ Some n → number_of (c ∷ cs) ≡ Some (up n)
-plain_number c cs n d m = rw (ne_eqb c 45 (λ e. omega arith)) (ap (mapped up) m)
+plain_number c cs n d m = rw (ne_eqb c 45 (λ e. omega arith)) (ap (option_map up) m)
 
 number_word : (ds : List ℕ) (n : ℕ) → AllDigits 10 ds → 0 < length ds → magnitude ds ≡ Some n → number_of ds ≡ Some (up n)
 number_word [] n d some m = absurd (omega arith)

@@ -3,26 +3,31 @@
 
 #![tactic(auto)]
 
-ghost use Rattle.std.specs.Prelude.{◌≡◌, ◌<◌, ◌++◌, IfOk, string_bytes, OnOk};
-ghost use Rattle.std.specs.List.{flat_map};
-ghost use Rattle.text_message.specs.Explaining.{expected_text, printing, hex_digit, shown_byte, closing_text, shown_word, word_at, sentence};
+ghost use Rattle.std.specs.Prelude.{◌≡◌, Some};
+ghost use Rattle.text_message.specs.Explaining.{expected_text, printing, shown_byte, closing_text, shown_word, word_at, sentence};
 
-use std::alloc::{AllocError, Global};
+use std::fmt;
 use text::{Expected, Unreadable};
 
 // One sentence, as "line 3: found `fats`, expected `fast`", with lines as an editor counts them.
-pub fn explain(heap: Global, text: &[u8], fault: Unreadable) -> Result<String, AllocError>
-    ensures { IfOk result (λ s. string_bytes s ≡ sentence text.now fault) }
-{
-    let line = fault.line.saturating_add(1);
-    let mut words = format!(in heap; "line {line}: found ")?;
-    put_word(&mut words, found(text, fault.start, fault.end))?;
-    words.push_str(", expected ")?;
-    words.push_str(expected_words(fault.expected))?;
-    Ok(words)
+#[derive(Clone, Copy)]
+pub struct TextSentence<'a> {
+    pub text: &'a [u8],
+    pub fault: Unreadable,
 }
 
-fn found(text: &[u8], start: usize, end: usize) -> &[u8]
+impl fmt::Display for TextSentence<'_> {
+    ghost output = { λ s. Some (sentence s.text.now s.fault) };
+
+    fn fmt<W: fmt::Write>(&self, f: &mut fmt::Formatter<W>) -> fmt::Result {
+        let line = self.fault.line.saturating_add(1);
+        let word = Word(word_at(self.text, self.fault.start, self.fault.end));
+        let expected = expected_words(self.fault.expected);
+        write!(f, "line {line}: found {word}, expected {expected}")
+    }
+}
+
+fn word_at(text: &[u8], start: usize, end: usize) -> &[u8]
     ensures { result.now ≡ word_at text.now start end }
 {
     let end = end.min(text.len());
@@ -31,26 +36,23 @@ fn found(text: &[u8], start: usize, end: usize) -> &[u8]
 }
 
 // At most 40 bytes of it; no bytes are the end of the text.
-fn put_word(words: &mut String, word: &[u8]) -> Result<(), AllocError>
-    ensures { OnOk result (string_bytes words.new ≡ string_bytes words.old ++ shown_word word.now) }
-{
-    if word.is_empty() {
-        words.push_str("the end of the text")?;
-        return Ok(());
-    }
-    words.push_str("`")?;
-    put_bytes(words, &word[0..word.len().min(40)])?;
-    words.push_str(closing(word.len()))?;
-    Ok(())
-}
+#[derive(Clone, Copy)]
+struct Word<'a>(&'a [u8]);
 
-fn put_bytes(words: &mut String, bytes: &[u8]) -> Result<(), AllocError>
-    ensures { OnOk result (string_bytes words.new ≡ string_bytes words.old ++ flat_map shown_byte bytes.now) }
-{
-    for b in bytes {
-        put_byte(words, *b)?;
+impl fmt::Display for Word<'_> {
+    ghost output = { λ w. Some (shown_word w.0.now) };
+
+    fn fmt<W: fmt::Write>(&self, f: &mut fmt::Formatter<W>) -> fmt::Result {
+        if self.0.is_empty() {
+            return write!(f, "the end of the text");
+        }
+        write!(f, "`")?;
+        for b in &self.0[..self.0.len().min(40)] {
+            let byte = Byte(*b);
+            write!(f, "{byte}")?;
+        }
+        f.write_str(closing(self.0.len()))
     }
-    Ok(())
 }
 
 fn closing(len: usize) -> &'static str
@@ -60,34 +62,26 @@ fn closing(len: usize) -> &'static str
 }
 
 // A byte that doesn't print is shown by its number, as `\x0c`.
-fn put_byte(words: &mut String, b: u8) -> Result<(), AllocError>
-    ensures { OnOk result (string_bytes words.new ≡ string_bytes words.old ++ shown_byte b) }
-{
-    if prints(b) {
-        words.push(char::from(b))?;
-        return Ok(());
+#[derive(Clone, Copy)]
+struct Byte(u8);
+
+impl fmt::Display for Byte {
+    ghost output = { λ b. Some (shown_byte b.0) };
+
+    fn fmt<W: fmt::Write>(&self, f: &mut fmt::Formatter<W>) -> fmt::Result {
+        let b = self.0;
+        if prints(b) {
+            f.write_char(char::from(b))
+        } else {
+            write!(f, "\\x{b:02x}")
+        }
     }
-    words.push_str("\\x")?;
-    words.push(char::from(hex(b / 16)))?;
-    words.push(char::from(hex(b % 16)))?;
-    Ok(())
 }
 
 fn prints(b: u8) -> bool
     ensures { result ≡ printing b }
 {
     b > b' ' && b < 127
-}
-
-fn hex(digit: u8) -> u8
-    requires { digit < 16 }
-    ensures { result ≡ hex_digit digit }
-{
-    if digit < 10 {
-        b'0' + digit
-    } else {
-        b'a' + (digit - 10)
-    }
 }
 
 fn expected_words(expected: Expected) -> &'static str

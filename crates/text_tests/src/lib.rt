@@ -10,7 +10,7 @@ mod tests {
     use std::process::Abort;
     use std::test::Fail;
     use text::{Block, Move, read};
-    use text_message::explain;
+    use text_message::TextSentence;
 
     // What is read must be these nodes.
     fn reads(rt: &impl Abort, heap: Global, text: &[u8], nodes: &[i64]) -> Result<(), Fail> {
@@ -37,7 +37,7 @@ mod tests {
             Err(Failed::Refused(fault)) => {
                 assert_eq!(rt; fault.line, line);
                 assert_eq!(rt; Refusal::from(fault).place(), line);
-                let told = explain(heap, text, fault)?;
+                let told = TextSentence { text, fault }.to_string(heap)?;
                 assert_eq!(rt; told.as_str(), words);
                 Ok(())
             }
