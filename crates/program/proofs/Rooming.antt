@@ -1,12 +1,15 @@
 -- Writing one run of slots behind another is writing both at once.
 use Rattle.std.proofs.Common.{◌≡◌, ℕ, ◌+◌, ◌*◌, ◌≤◌, List, [], ◌∷◌, ◌++◌, length, take, drop, sym, refl, ap, ◌∙◌, append_assoc, append-nil, arith}
-use Rattle.std.proofs.lemmas.List.{length-append, length-take-le, take_at, drop_at, drop-drop, drop_all, take-append-drop}
+use Rattle.std.proofs.lemmas.List.{length-append, length-take-le, length-drop, take_at, drop_at, drop-drop, drop_all, take-append-drop}
 use Rattle.std.specs.List.{flat_map}
 use Rattle.program.specs.Rooms.{over}
 
 module _ {A : Type 0} where
   pub over_none : (room : List A) (k : ℕ) → over room k [] ≡ room
   over_none room k = let e : k + 0 ≡ k = omega arith in rw e (take-append-drop k room)
+
+  pub length_over : (room xs : List A) (k : ℕ) → k + length xs ≤ length room → length (over room k xs) ≡ length room
+  length_over room xs k l = simp (length-append, length-take-le k room (omega arith), length-drop) (omega arith)
 
   pub over_over : (room xs ys : List A) (k n : ℕ) → k ≤ length room → n ≡ k + length xs → over (over room k xs) n ys ≡ over room k (xs ++ ys)
   over_over room xs ys k n l e =

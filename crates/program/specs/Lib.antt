@@ -4,4 +4,5 @@ pub mod Loads
 pub mod Nodes
 pub mod Programs
 pub mod Rooms
+pub mod Sound
 pub mod Walks

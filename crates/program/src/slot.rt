@@ -6,7 +6,7 @@ ghost use Rattle.std.proofs.Common.{rules};
 
 use super::target::Target;
 
-pub trait Slot: Sized {
+pub trait Slot: Sized + Drop {
     // How many hold a target, and which these are.
     ghost width: { ℕ };
 
@@ -47,6 +47,7 @@ impl Slot for Target {
 }
 
 // Where a target is only looked at.
+#[derive(Drop)]
 pub struct Unkept;
 
 impl Slot for Unkept {
