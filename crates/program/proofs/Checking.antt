@@ -1,8 +1,8 @@
 -- The checks one by one: the loops that look for a first place, and what the checks give once they are passed.
-use Rattle.std.proofs.Common.{◌≡◌, ℕ, zero, suc, ◌+◌, ◌-◌, ◌*◌, ◌%◌, ◌^◌, ◌<◌, ◌≤◌, min, Bool, true, false, cond, not, ◌&&◌, eqb, leb, List, [], ◌∷◌, length, get_or, drop, ℤ, pos, nat_abs, Some, None, Ok, Option, sym, refl, ap, ◌∙◌, subst, inl, inr, add-one, arith}
-use Rattle.std.proofs.lemmas.List.{at_drop_more, at_drop_all, get_or_past}
+use Rattle.std.proofs.Common.{◌≡◌, ℕ, zero, suc, ◌+◌, ◌-◌, ◌*◌, ◌%◌, ◌^◌, ◌<◌, ◌≤◌, Bool, true, false, cond, not, List, [], ◌∷◌, length, get_or, ℤ, pos, nat_abs, Some, None, Ok, Option, sym, refl, ap, ◌∙◌, subst, inl, inr, add-one, arith}
+use Rattle.std.proofs.lemmas.List.{get_or_past}
 use Rattle.std.proofs.lemmas.Int.{ints}
-use Rattle.std.proofs.lemmas.Bool.{and_from, and_parts, eq-eqb, eqb-true, le-leb, leb-true, lt-leb, cases_lt}
+use Rattle.std.proofs.lemmas.Bool.{leb-true, cases_lt}
 use Rattle.std.specs.Borrow.{MutBor}
 use Rattle.std.specs.List.{flat_map, position_from}
 use Rattle.std.specs.Option.{option_map}
@@ -10,13 +10,11 @@ use Rattle.geometry.proofs.Acts.{same_place}
 use Rattle.geometry.specs.Frames.{put, seen}
 use Rattle.geometry.specs.declared.frame.Frame.{Frame}
 use Rattle.geometry.specs.declared.place.Place.{Place}
-use Rattle.refusal.specs.declared.Refusal.{Refusal}
-use Rattle.refusal.specs.declared.Refusal.TheVariants.{Room, Reach}
+use Rattle.refusal.specs.declared.Refusal.TheVariants.{Reach}
 use Rattle.program.proofs.Meanings.{framed_same, says_count}
 use Rattle.program.proofs.Naming.{staged}
-use Rattle.program.specs.Answers.{first_in, first_failing, names_below, reached, refusal_of, said, small, well_named, well_shaped}
-use Rattle.count.specs.Counts.{size}
-use Rattle.program.specs.Nodes.{number, nodes, node_in, whole}
+use Rattle.program.specs.Answers.{first_in, first_failing, reached, said, small, well_named}
+use Rattle.program.specs.Nodes.{nodes, whole}
 use Rattle.program.specs.Programs.{Program, Went, went, count}
 use Rattle.program.specs.Sound.{meant, Sound}
 use Rattle.program.specs.Walks.{went_in, Ready, Whole, Ran}
@@ -82,32 +80,15 @@ small_all xs e k =
     ]
 
 -- the first three checks are passed
-pub record Three (xs : List ℤ) : Type 0 where
-  pub shape : well_shaped xs ≡ true
-  pub numbers : first_in small 0 xs ≡ None
-  pub names : first_failing (well_named xs) 0 (nodes xs) ≡ None
-
-pub three_from : (xs : List ℤ) → length xs % 4 ≡ 0 → 1 ≤ length xs → length xs ≤ 4096 → first_in small 0 xs ≡ None →
-    first_failing (well_named xs) 0 (nodes xs) ≡ None → Three xs
-three_from xs a b c numbers names = record {
-  shape = and_from (eqb (length xs) (4 * nodes xs)) (leb 1 (nodes xs) && leb (nodes xs) 1024)
-      (eq-eqb (length xs) (4 * nodes xs) (omega arith))
-      (and_from (leb 1 (nodes xs)) (leb (nodes xs) 1024) (le-leb 1 (nodes xs) (omega arith)) (le-leb (nodes xs) 1024 (omega arith)));
-  numbers = numbers;
-  names = names;
+pub sound_from : (xs : List ℤ) → length xs % 4 ≡ 0 → 1 ≤ length xs → length xs ≤ 4096 → first_in small 0 xs ≡ None →
+    first_failing (well_named xs) 0 (nodes xs) ≡ None → Sound xs
+sound_from xs whole some few numbers names = record {
+  shaped = omega arith;
+  some = omega arith;
+  few = omega arith;
+  small = small_all xs numbers;
+  named = λ n l. all_of (well_named xs) 0 (nodes xs) names n (omega arith) (omega arith);
 }
-
-pub sound_from : (xs : List ℤ) → Three xs → Sound xs
-sound_from xs t =
-    let p = and_parts (eqb (length xs) (4 * nodes xs)) (leb 1 (nodes xs) && leb (nodes xs) 1024) t.shape in
-    let q = and_parts (leb 1 (nodes xs)) (leb (nodes xs) 1024) p.1 in
-    record {
-      shaped = eqb-true _ _ p.0;
-      some = leb-true _ _ q.0;
-      few = leb-true _ _ q.1;
-      small = small_all xs t.numbers;
-      named = λ n l. all_of (well_named xs) 0 (nodes xs) t.names n (omega arith) (omega arith);
-    }
 
 abbrev pub origin : Place
 origin = record { x = pos 0; y = pos 0 }
@@ -151,27 +132,12 @@ start_ready p s room width e fits roomy =
       fits = omega arith;
     })
 
--- what is left to refuse
-module _ (xs : List ℤ) (most n : ℕ) (three : Three xs) (targets : n ≡ min (length (said xs)) (2 ^ 64 - 1)) (fits : most < 2 ^ 64 - 1) where
-  pub refused_room : most < n → (m : ℕ) → m ≡ min n (2 ^ 40) → refusal_of xs most ≡ Some (Room m)
-  refused_room l m e =
-      let many : most < length (said xs) = omega (arith, targets) in
-      let is : m ≡ min (length (said xs)) (2 ^ 40) = omega (arith, targets) in
-      rw (three.shape, three.numbers, three.names, lt-leb (length (said xs)) most many, is)
-
-  module _ (l : n ≤ most) where
-    pub few : length (said xs) ≤ most
-    few = omega (arith, targets)
-
-    pub left_to_reach : refusal_of xs most ≡ option_map Reach (first_in reached 0 (said xs))
-    left_to_reach = rw (three.shape, three.numbers, three.names, le-leb (length (said xs)) most few)
-
 pub ran_whole : {T : Type 0} (slots : Target → List T) (width : ℕ) (xs : List ℤ) (s : Teller T) (room : MutBor (List T)) (t : Teller T) (room₁ : List T) →
     Sound xs → s ≡ starting room → room₁ ≡ t.room.now →
     Whole slots width s (went_in outside (meant xs (nodes xs - 1)) s.at) t → Ran slots room.now (said xs) (Ok t.said) room₁
 ran_whole slots width xs s room t room₁ sound e same h =
     let k = subst (λ (w : Went). Whole slots width (starting room) w t) (whole_went xs sound)
-        (subst (λ (z : Teller _). Whole slots width z (went_in outside (meant xs (nodes xs - 1)) z.at) t) e h) in
+    (subst (λ (z : Teller _). Whole slots width z (went_in outside (meant xs (nodes xs - 1)) z.at) t) e h) in
     let z : width * 0 ≡ 0 = omega arith in
     (k.reach, k.said ∙ omega arith, same ∙ k.written ∙ ap (λ (n : ℕ). over room.now n (flat_map slots (said xs))) z)
 

@@ -1,12 +1,15 @@
 -- Walks one after the other, and what each kind of node owes.
 use Rattle.std.proofs.Common.{◌≡◌, ℕ, suc, ◌+◌, ◌-◌, ◌*◌, ◌<◌, ◌≤◌, Bool, true, false, cond, List, [], ◌∷◌, ◌++◌, length, Some, None, Ok, Err, Option, Result, sym, refl, ap, ◌∙◌, subst, append-nil, mul-add, arith}
+use Rattle.std.proofs.lemmas.Grind.{flat_map-append}
 use Rattle.std.proofs.lemmas.List.{length-append}
 use Rattle.std.specs.List.{flat_map}
+use Rattle.std.specs.Option.{option_or}
+use Rattle.std.specs.Result.{IsErr, IsOk}
 use Rattle.geometry.proofs.Acts.{within_true}
 use Rattle.geometry.specs.Places.{Within}
 use Rattle.geometry.specs.declared.place.Place.{Place}
 use Rattle.program.proofs.Meanings.{again_split, again_last}
-use Rattle.program.proofs.Rooming.{length_over, over_none, over_over, joined_append, length_joined}
+use Rattle.program.proofs.Rooming.{length_over, over_none, over_over, length_joined}
 use Rattle.program.specs.Answers.{first_in, reached}
 use Rattle.program.specs.Programs.{Went, stay, going, followed, again}
 use Rattle.program.specs.Rooms.{over}
@@ -15,24 +18,20 @@ use Rattle.program.specs.declared.target.Target.{Target}
 use Rattle.program.specs.declared.walk.OutOfReach.{OutOfReach}
 use Rattle.program.specs.declared.walk.Teller.{Teller}
 
-abbrev pub first_or : Option ℕ → Option ℕ → Option ℕ
-first_or None b = b
-first_or (Some k) b = Some k
-
-cond_or : (b : Bool) (x y : Option ℕ) (n : ℕ) → cond b (first_or x y) (Some n) ≡ first_or (cond b x (Some n)) y
+cond_or : (b : Bool) (x y : Option ℕ) (n : ℕ) → cond b (option_or x y) (Some n) ≡ option_or (cond b x (Some n)) y
 cond_or true x y n = refl
 cond_or false x y n = refl
 
 pub first_append : {A : Type 0} (test : A → Bool) (n : ℕ) (xs ys : List A) →
-    first_in test n (xs ++ ys) ≡ first_or (first_in test n xs) (first_in test (n + length xs) ys)
+    first_in test n (xs ++ ys) ≡ option_or (first_in test n xs) (first_in test (n + length xs) ys)
 unfolding first_in
 first_append test n [] ys = let e : n + 0 ≡ n = omega arith in rw e
 first_append test n (x ∷ xs) ys =
     let e : suc n + length xs ≡ n + suc (length xs) = omega arith in
-    ap (λ (z : Option ℕ). cond (test x) z (Some n)) (first_append test (suc n) xs ys ∙ ap (λ (m : ℕ). first_or (first_in test (suc n) xs) (first_in test m ys)) e)
+    ap (λ (z : Option ℕ). cond (test x) z (Some n)) (first_append test (suc n) xs ys ∙ ap (λ (m : ℕ). option_or (first_in test (suc n) xs) (first_in test m ys)) e)
     ∙ cond_or (test x) (first_in test (suc n) xs) (first_in test (n + suc (length xs)) ys) n
 
-some_or : (o p : Option ℕ) (k : ℕ) → o ≡ Some k → first_or o p ≡ Some k
+some_or : (o p : Option ℕ) (k : ℕ) → o ≡ Some k → option_or o p ≡ Some k
 some_or None p k h = let z : ◌≡◌ {A = ℕ} 0 1 = cc in absurd (omega arith)
 some_or (Some j) p k h = h
 
@@ -62,6 +61,15 @@ module _ {T : Type 0} (slots : Target → List T) (width : ℕ) where
       Walked slots width s v r t → Walked slots width s w r t
   walked_as s w v r t e h = subst (λ (u : Went). Walked slots width s u r t) (sym e) h
 
+  pub walked_whole : (s : Teller T) (w : Went) (r : Result Unit OutOfReach) (t : Teller T) → IsOk r → Walked slots width s w r t → Whole slots width s w t
+  walked_whole s w (Ok x) t i h = h
+  walked_whole s w (Err e) t i h = let z : ◌≡◌ {A = ℕ} 0 1 = cc in absurd (omega arith)
+
+  pub walked_off : (s : Teller T) (w : Went) (r : Result Unit OutOfReach) (t : Teller T) → IsErr r → Walked slots width s w r t →
+      first_in reached s.said w.says ≡ Some t.said
+  walked_off s w (Ok x) t i h = let z : ◌≡◌ {A = ℕ} 0 1 = cc in absurd (omega arith)
+  walked_off s w (Err e) t i h = h
+
   pub walked_stops : (s t : Teller T) (w v : Went) → first_in reached s.said w.says ≡ Some t.said →
       first_in reached s.said (joint w v).says ≡ Some t.said
   walked_stops s t w v h =
@@ -81,11 +89,11 @@ module _ {T : Type 0} (slots : Target → List T) (width : ℕ) where
         Walked slots width s (joint w v) r u
     walked_goes_on s t w v (Err e) u l h k =
         first_append reached s.said w.says v.says
-        ∙ ap (λ (o : Option ℕ). first_or o (first_in reached (s.said + length w.says) v.says)) h.reach
+        ∙ ap (λ (o : Option ℕ). option_or o (first_in reached (s.said + length w.says) v.says)) h.reach
         ∙ ap (λ (m : ℕ). first_in reached m v.says) (sym h.said) ∙ k
     walked_goes_on s t w v (Ok e) u l h k = record {
       reach = first_append reached s.said w.says v.says
-          ∙ ap (λ (o : Option ℕ). first_or o (first_in reached (s.said + length w.says) v.says)) h.reach
+          ∙ ap (λ (o : Option ℕ). option_or o (first_in reached (s.said + length w.says) v.says)) h.reach
           ∙ ap (λ (m : ℕ). first_in reached m v.says) (sym h.said) ∙ k.reach;
       ends = k.ends;
       said = k.said ∙ omega (arith, h.said, length-append w.says v.says);
@@ -93,7 +101,7 @@ module _ {T : Type 0} (slots : Target → List T) (width : ℕ) where
           ∙ ap (λ (z : List T). over z (width * t.said) (flat_map slots v.says)) h.written
           ∙ over_over s.room.now (flat_map slots w.says) (flat_map slots v.says) (width * s.said) (width * t.said) l
           (ap (λ (m : ℕ). width * m) h.said ∙ mul-add width s.said (length w.says) ∙ omega (arith, length_joined slots width sized w.says))
-          ∙ ap (over s.room.now (width * s.said)) (sym (joined_append slots w.says v.says));
+          ∙ ap (over s.room.now (width * s.said)) (sym (flat_map-append slots w.says v.says));
       within = k.within;
     }
 

@@ -9,6 +9,7 @@ use geometry::Place;
 use refusal::{Failed, Refusal};
 use std::alloc::Global;
 
+// No `Result`: those who call `say` were promised these two cases by name.
 #[derive(Clone, Copy, PartialEq, Eq, Debug)]
 pub enum Said {
     // So many targets.

@@ -1,4 +1,5 @@
-// A node of a program, decoded from its four numbers. A node names others by their number.
+// A node of a program, decoded from its four numbers. It names others by their number, as in the format in which programs
+// are lent, where a node may be named many times.
 ghost use Rattle.std.specs.Prelude.{◌≡◌};
 ghost use Rattle.program.specs.Nodes.{decoded};
 ghost use Rattle.program.specs.Answers.{names_below};
@@ -29,7 +30,8 @@ pub enum Node {
 }
 
 impl Node {
-    // The node of four numbers: its kind, and what that kind has. None if there is no such kind.
+    // The node of four numbers: its kind, and what that kind has. None if there is no such kind. A walk decodes a node at
+    // each step, so this is to be inlined there.
     #[inline]
     pub fn of(numbers: &[i64; 4]) -> Option<Node>
         ensures { result ≡ decoded numbers.now }

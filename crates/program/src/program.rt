@@ -1,8 +1,4 @@
-// A program that passed its checks, with how many targets each of its nodes says. The checks are made in the order of the
-// list of refusals.
-//
-// The program stays in the numbers that were lent, nodes that name others by their number, and the counts stand in an array
-// of a fixed length, since `say` takes no memory from the heap.
+// A program whose nodes are checked and counted, and the checks, in the order of the list of refusals.
 ghost use Rattle.std.specs.Prelude.{◌≡◌, ◌-◌, ◌*◌, ◌^◌, ◌<◌, ◌≤◌, length, min};
 ghost use Rattle.program.specs.Answers.{first_in, said, small};
 ghost use Rattle.program.specs.Nodes.{node_in, nodes as node_count};
@@ -22,10 +18,12 @@ const LARGEST: u64 = 1_000_000;
 // How many targets a refusal counts at most.
 const MOST_COUNTED: u64 = 1 << 40;
 
+// The numbers stay where they are lent, and the counts stand in an array of a fixed length: no heap is needed for a program.
 #[derive(Drop)]
 pub struct Program<'a> {
-    nodes: &'a [i64],
-    counts: [u64; MOST_NODES],
+    pub nodes: &'a [i64],
+    // How many targets each node says.
+    pub counts: [u64; MOST_NODES],
     ghost sound: { Sound nodes.now },
     ghost counted: { Counts nodes.now counts (node_count nodes.now) },
 }
@@ -77,10 +75,10 @@ impl<'a> Program<'a> {
         ensures { Ran T.Slot.slots room.old (said self.now.nodes.now) result room.new }
     {
         let mut teller = Teller::new(room);
-        match teller.walk(self, self.last(), Frame::OUTSIDE) {
-            Ok(()) => Ok(teller.said),
-            Err(_) => Err(Refusal::Reach(teller.said)),
-        }
+        teller
+            .walk(self, self.last(), Frame::OUTSIDE)
+            .map_err(|_| Refusal::Reach(teller.said))?;
+        Ok(teller.said)
     }
 
     // The node that is the whole program.

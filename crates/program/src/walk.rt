@@ -9,7 +9,8 @@ use super::slot::Slot;
 use super::target::Target;
 use geometry::{Frame, Place};
 
-// A target out of reach: the teller stands before the first one.
+// A target out of reach: the teller stands before the first one. It holds no refusal, since a result that does makes a walk
+// take half as long again.
 #[derive(Clone, Copy)]
 pub struct OutOfReach;
 

@@ -1,4 +1,4 @@
-use Rattle.std.proofs.Common.{◌≡◌, ℕ, ◌-◌, ◌<◌, true}
+use Rattle.std.proofs.Common.{◌≡◌, ◌-◌}
 use Rattle.program.specs.Answers.{first_failing, well_named}
 use Rattle.program.specs.Nodes.{nodes}
 use Rattle.program.specs.Sound.{Counts}
