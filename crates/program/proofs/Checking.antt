@@ -1,43 +1,38 @@
 -- The checks one by one: the loops that look for a first place, and what the checks give once they are passed.
-use Rattle.std.proofs.Common.{◌≡◌, ℕ, zero, suc, ◌+◌, ◌-◌, ◌*◌, ◌%◌, ◌^◌, ◌<◌, ◌≤◌, min, Bool, true, false, cond, ◌&&◌, eqb, leb, List, [], ◌∷◌, length, get_or, drop, ℤ, pos, nat_abs, Some, None, Ok, Option, sym, refl, ap, ◌∙◌, subst, inl, inr, add-one, arith}
-use Rattle.std.proofs.lemmas.List.{at_drop_more, at_drop_all, get_or_past}
+use Rattle.std.proofs.Common.{◌≡◌, ℕ, zero, suc, ◌+◌, ◌-◌, ◌*◌, ◌%◌, ◌^◌, ◌<◌, ◌≤◌, Bool, true, false, cond, not, List, [], ◌∷◌, length, get_or, ℤ, pos, nat_abs, Some, None, Ok, Option, sym, refl, ap, ◌∙◌, subst, inl, inr, add-one, arith}
+use Rattle.std.proofs.lemmas.List.{get_or_past}
 use Rattle.std.proofs.lemmas.Int.{ints}
-use Rattle.std.proofs.lemmas.Bool.{and_from, and_parts, eq-eqb, eqb-true, le-leb, leb-true, lt-leb, cases_lt}
-use Rattle.std.specs.List.{flat_map}
+use Rattle.std.proofs.lemmas.Bool.{leb-true, cases_lt}
+use Rattle.std.specs.Borrow.{MutBor}
+use Rattle.std.specs.List.{flat_map, position_from}
 use Rattle.std.specs.Option.{option_map}
 use Rattle.geometry.proofs.Acts.{same_place}
 use Rattle.geometry.specs.Frames.{put, seen}
 use Rattle.geometry.specs.declared.frame.Frame.{Frame}
 use Rattle.geometry.specs.declared.place.Place.{Place}
-use Rattle.refusal.specs.declared.Refusal.{Refusal}
-use Rattle.refusal.specs.declared.Refusal.TheVariants.{Room, Reach}
+use Rattle.refusal.specs.declared.Refusal.TheVariants.{Reach}
 use Rattle.program.proofs.Meanings.{framed_same, says_count}
 use Rattle.program.proofs.Naming.{staged}
-use Rattle.program.specs.Answers.{first_in, first_failing, names_below, reached, refusal_of, said, small, well_named, well_shaped}
-use Rattle.count.specs.Counts.{size}
-use Rattle.program.specs.Nodes.{number, nodes, node_in, whole}
+use Rattle.program.specs.Answers.{first_in, first_failing, reached, said, small, well_named}
+use Rattle.program.specs.Nodes.{nodes, whole}
 use Rattle.program.specs.Programs.{Program, Went, went, count}
-use Rattle.program.specs.Walks.{meant, went_in, Sound, Counts, Passed, Ready, Whole, Ran}
+use Rattle.program.specs.Sound.{meant, Sound}
+use Rattle.program.specs.Walks.{went_in, Ready, Whole, Ran}
 use Rattle.program.specs.Rooms.{over}
-use Rattle.program.specs.declared.state.State.{State}
+use Rattle.program.specs.declared.program.Program.{Program as Lent}
+use Rattle.program.specs.declared.walk.Teller.{Teller}
 use Rattle.program.specs.declared.target.Target.{Target}
 
-module _ {A : Type 0} (test : A → Bool) (xs : List A) (i : ℕ) (d : A) where
-  pub first_more : i < length xs → test (get_or xs i d) ≡ true → first_in test i (drop i xs) ≡ first_in test (i + 1) (drop (i + 1) xs)
-  unfolding first_in
-  first_more l e =
-      let step : first_in test i (drop i xs) ≡ cond (test (get_or xs i d)) (first_in test (suc i) (drop (i + 1) xs)) (Some i) = at_drop_more (first_in test i) xs i d l in
-      step ∙ rw (e, add-one i)
+cond_not : (b : Bool) (x y : Option ℕ) → cond (not b) x y ≡ cond b y x
+cond_not true x y = refl
+cond_not false x y = refl
 
-  pub first_here : i < length xs → test (get_or xs i d) ≡ false → first_in test i (drop i xs) ≡ Some i
-  unfolding first_in
-  first_here l e =
-      let step : first_in test i (drop i xs) ≡ cond (test (get_or xs i d)) (first_in test (suc i) (drop (i + 1) xs)) (Some i) = at_drop_more (first_in test i) xs i d l in
-      step ∙ rw e
-
-  pub first_none : length xs ≤ i → first_in test i (drop i xs) ≡ None
-  unfolding first_in
-  first_none l = at_drop_all (first_in test i) xs i l
+pub first_is : {A : Type 0} (test : A → Bool) (n : ℕ) (xs : List A) → position_from (λ x. not (test x)) n xs ≡ first_in test n xs
+unfolding first_in
+first_is test n [] = refl
+first_is test n (x ∷ xs) =
+    cond_not (test x) (Some n) (position_from (λ y. not (test y)) (n + 1) xs)
+    ∙ ap (λ (z : Option ℕ). cond (test x) z (Some n)) (first_is test (n + 1) xs ∙ rw (add-one n))
 
 module _ (test : ℕ → Bool) (n m : ℕ) where
   left : n < m → m - n ≡ suc (m - (n + 1))
@@ -85,33 +80,15 @@ small_all xs e k =
     ]
 
 -- the first three checks are passed
-pub record Three (xs : List ℤ) : Type 0 where
-  pub shape : well_shaped xs ≡ true
-  pub numbers : first_in small 0 xs ≡ None
-  pub names : first_failing (well_named xs) 0 (nodes xs) ≡ None
-
-pub three_from : (xs : List ℤ) → length xs % 4 ≡ 0 → 1 ≤ length xs → length xs ≤ 4096 → None ≡ first_in small 0 xs →
-    None ≡ first_failing (well_named xs) 0 (nodes xs) → Three xs
-three_from xs a b c numbers names = record {
-  shape = and_from (eqb (length xs) (4 * nodes xs)) (leb 1 (nodes xs) && leb (nodes xs) 1024)
-      (eq-eqb (length xs) (4 * nodes xs) (omega arith))
-      (and_from (leb 1 (nodes xs)) (leb (nodes xs) 1024) (le-leb 1 (nodes xs) (omega arith)) (le-leb (nodes xs) 1024 (omega arith)));
-  numbers = sym numbers;
-  names = sym names;
+pub sound_from : (xs : List ℤ) → length xs % 4 ≡ 0 → 1 ≤ length xs → length xs ≤ 4096 → first_in small 0 xs ≡ None →
+    first_failing (well_named xs) 0 (nodes xs) ≡ None → Sound xs
+sound_from xs whole some few numbers names = record {
+  shaped = omega arith;
+  some = omega arith;
+  few = omega arith;
+  small = small_all xs numbers;
+  named = λ n l. all_of (well_named xs) 0 (nodes xs) names n (omega arith) (omega arith);
 }
-
-pub sound_from : (xs : List ℤ) → Three xs → Sound xs
-sound_from xs t =
-    let p = and_parts (eqb (length xs) (4 * nodes xs)) (leb 1 (nodes xs) && leb (nodes xs) 1024) t.shape in
-    let q = and_parts (leb 1 (nodes xs)) (leb (nodes xs) 1024) p.1 in
-    record {
-      shaped = eqb-true _ _ p.0;
-      some = leb-true _ _ q.0;
-      few = leb-true _ _ q.1;
-      small = small_all xs t.numbers;
-      named = λ n l. (and_parts (leb (size (number xs n 0)) 8) (names_below n (node_in xs n))
-          (all_of (well_named xs) 0 (nodes xs) t.names n (omega arith) (omega arith))).1;
-    }
 
 abbrev pub origin : Place
 origin = record { x = pos 0; y = pos 0 }
@@ -138,56 +115,35 @@ pub whole_count : (xs : List ℤ) → Sound xs → count (meant xs (nodes xs - 1
 whole_count xs s =
     ap count (sym (staged xs (nodes xs) (nodes xs - 1) (omega (arith, s.some)))) ∙ sym (says_count (whole xs) origin)
 
-pub start_ready : (xs : List ℤ) (cs : List ℕ) (width space : ℕ) → Sound xs → Counts xs cs (nodes xs) → length (said xs) < 2 ^ 64 → width * length (said xs) ≤ space →
-    Ready xs cs (nodes xs - 1) outside (record { at = origin; said = 0 }) width space
-start_ready xs cs width space s c fits roomy =
-    let all : 0 + count (meant xs (nodes xs - 1)) ≡ length (said xs) = omega (arith, whole_count xs s) in
-    record {
-      sound = s;
-      counts = c;
-      here = omega (arith, s.some);
+-- a teller before its first target
+abbrev starting : {T : Type 0} → MutBor (List T) → Teller T
+starting room = record { room = room; at = origin; said = 0 }
+
+pub start_ready : {T : Type 0} (p : Lent) (s : Teller T) (room : MutBor (List T)) (width : ℕ) → s ≡ starting room → length (said p.nodes.now) < 2 ^ 64 →
+    width * length (said p.nodes.now) ≤ length room.now → Ready p (nodes p.nodes.now - 1) outside s width
+start_ready p s room width e fits roomy =
+    let xs : List ℤ = p.nodes.now in
+    let all : 0 + count (meant xs (nodes xs - 1)) ≡ length (said xs) = omega (arith, whole_count xs p.sound) in
+    rw e (record {
+      here = omega (arith, p.sound.some);
       near = record { across = omega arith; along = omega arith };
       within = record { across = omega arith; along = omega arith };
       roomy = rw all roomy;
       fits = omega arith;
-    }
+    })
 
--- what is left to refuse, with the counts of all nodes
-module _ (xs : List ℤ) (most : ℕ) (cs : List ℕ) (three : Three xs) (counts : Counts xs cs (nodes xs)) (fits : most < 2 ^ 64 - 1) where
-  targets : get_or cs (nodes xs - 1) 0 ≡ min (length (said xs)) (2 ^ 64 - 1)
-  targets =
-      counts.each (nodes xs - 1) (omega (arith, (sound_from xs three).some))
-      ∙ ap (λ (n : ℕ). min n (2 ^ 64 - 1)) (whole_count xs (sound_from xs three))
-
-  pub refused_room : most < get_or cs (nodes xs - 1) 0 → (n : ℕ) → n ≡ min (get_or cs (nodes xs - 1) 0) (2 ^ 40) → refusal_of xs most ≡ Some (Room n)
-  refused_room l n e =
-      let many : most < length (said xs) = omega (arith, targets) in
-      let is : n ≡ min (length (said xs)) (2 ^ 40) = omega (arith, targets) in
-      rw (three.shape, three.numbers, three.names, lt-leb (length (said xs)) most many, is)
-
-  module _ (l : get_or cs (nodes xs - 1) 0 ≤ most) where
-    pub few : length (said xs) ≤ most
-    few = omega (arith, targets)
-
-    left_to_reach : refusal_of xs most ≡ option_map Reach (first_in reached 0 (said xs))
-    left_to_reach = rw (three.shape, three.numbers, three.names, le-leb (length (said xs)) most few)
-
-    pub refused_reach : (e : Refusal) → option_map Reach (first_in reached 0 (said xs)) ≡ Some e → refusal_of xs most ≡ Some e
-    refused_reach e h = left_to_reach ∙ h
-
-    pub passed : first_in reached 0 (said xs) ≡ None → Passed xs most cs
-    passed h = record {
-      none = left_to_reach ∙ ap (option_map Reach) h;
-      sound = sound_from xs three;
-      counts = counts;
-      fits = few;
-      targets = targets ∙ omega (arith, few);
-    }
-
-pub ran_whole : {T : Type 0} (slots : Target → List T) (width : ℕ) (room : List T) (xs : List ℤ) (t : State) (room₁ : List T) → Sound xs →
-    Whole slots width room (record { at = origin; said = 0 }) (went_in outside (meant xs (nodes xs - 1)) origin) t room₁ →
-    Ran slots room (said xs) (Ok t.said) room₁
-ran_whole slots width room xs t room₁ s h =
-    let k = subst (λ (w : Went). Whole slots width room (record { at = origin; said = 0 }) w t room₁) (whole_went xs s) h in
+pub ran_whole : {T : Type 0} (slots : Target → List T) (width : ℕ) (xs : List ℤ) (s : Teller T) (room : MutBor (List T)) (t : Teller T) (room₁ : List T) →
+    Sound xs → s ≡ starting room → room₁ ≡ t.room.now →
+    Whole slots width s (went_in outside (meant xs (nodes xs - 1)) s.at) t → Ran slots room.now (said xs) (Ok t.said) room₁
+ran_whole slots width xs s room t room₁ sound e same h =
+    let k = subst (λ (w : Went). Whole slots width (starting room) w t) (whole_went xs sound)
+    (subst (λ (z : Teller _). Whole slots width z (went_in outside (meant xs (nodes xs - 1)) z.at) t) e h) in
     let z : width * 0 ≡ 0 = omega arith in
-    (k.reach, k.said ∙ omega arith, k.written ∙ ap (λ (n : ℕ). over room n (flat_map slots (said xs))) z)
+    (k.reach, k.said ∙ omega arith, same ∙ k.written ∙ ap (λ (n : ℕ). over room.now n (flat_map slots (said xs))) z)
+
+pub ran_off : {T : Type 0} (xs : List ℤ) (s : Teller T) (room : MutBor (List T)) (n : ℕ) → Sound xs → s ≡ starting room →
+    first_in reached s.said (went_in outside (meant xs (nodes xs - 1)) s.at).says ≡ Some n → option_map Reach (first_in reached 0 (said xs)) ≡ Some (Reach n)
+ran_off xs s room n sound e h =
+    ap (option_map Reach)
+    (ap (λ (w : Went). first_in reached 0 w.says) (sym (whole_went xs sound))
+    ∙ subst (λ (z : Teller _). first_in reached z.said (went_in outside (meant xs (nodes xs - 1)) z.at).says ≡ Some n) e h)

@@ -4,9 +4,9 @@ use Rattle.std.proofs.lemmas.List.{length-set, get_or-set_same, get_or-set_other
 use Rattle.std.proofs.lemmas.Bool.{ltb-true, and_parts, cases_lt, cases_eq}
 use Rattle.program.proofs.Naming.{meant_step}
 use Rattle.program.specs.Answers.{names_below}
-use Rattle.program.specs.Nodes.{nodes, node_in, program}
+use Rattle.program.specs.Nodes.{node_in, program}
 use Rattle.program.specs.Programs.{Program, count}
-use Rattle.program.specs.Walks.{meant, counted, Sound, Counts}
+use Rattle.program.specs.Sound.{meant, counted, Counts}
 use Rattle.program.specs.declared.node.Node.{Node}
 use Rattle.program.specs.declared.node.Node.TheVariants.{Nothing, To, By, Next, Times, At, Turn, Mirror, Sub}
 
@@ -50,14 +50,13 @@ pub count_meant : (xs : List ℤ) (n : ℕ) → names_below n (node_in xs n) ≡
 count_meant xs n h = ap count (meant_step xs n h) ∙ count_program (meant xs) (node_in xs n)
 
 -- one node more
-pub counts_more : (xs : List ℤ) (cs : List ℕ) (n r : ℕ) → Sound xs → n < nodes xs → Counts xs cs n →
+pub counts_more : (xs : List ℤ) (cs : List ℕ) (n r : ℕ) → n < 1024 → names_below n (node_in xs n) ≡ true → Counts xs cs n →
     r ≡ min (counted (λ k. get_or cs k 0) (node_in xs n)) (2 ^ 64 - 1) → Counts xs (set cs n r) (n + 1)
-counts_more xs cs n r s l h e =
-    let w = s.named n l in
+counts_more xs cs n r l w h e =
     let z : r ≡ min (count (meant xs n)) (2 ^ 64 - 1) =
     e ∙ counted_cut (λ k. get_or cs k 0) (λ k. count (meant xs k)) (2 ^ 64 - 1) n (node_in xs n) h.each w
     ∙ ap (λ (c : ℕ). min c (2 ^ 64 - 1)) (sym (count_meant xs n w)) in
-    let lt : n < length cs = omega (arith, h.long, s.few) in
+    let lt : n < length cs = omega (arith, h.long) in
     record {
       long = length-set cs n r ∙ h.long;
       each = λ k kl. elim (cases_eq k n) [

@@ -1,5 +1,6 @@
 pub mod Checking
 pub mod Counting
+pub mod Decoding
 pub mod Holding
 pub mod Meanings
 pub mod Naming

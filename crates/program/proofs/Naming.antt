@@ -4,7 +4,7 @@ use Rattle.std.proofs.lemmas.Bool.{ltb-true, lt-ltb, le-ltb, and_parts, cases_lt
 use Rattle.program.specs.Answers.{names_below}
 use Rattle.program.specs.Nodes.{node_in, program, programs}
 use Rattle.program.specs.Programs.{Program, next, times, at, turn, mirror, sub}
-use Rattle.program.specs.Walks.{meant}
+use Rattle.program.specs.Sound.{meant}
 use Rattle.program.specs.declared.node.Node.{Node}
 use Rattle.program.specs.declared.node.Node.TheVariants.{Nothing, To, By, Next, Times, At, Turn, Mirror, Sub}
 

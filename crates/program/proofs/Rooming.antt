@@ -1,12 +1,16 @@
 -- Writing one run of slots behind another is writing both at once.
-use Rattle.std.proofs.Common.{◌≡◌, ℕ, ◌+◌, ◌*◌, ◌≤◌, List, [], ◌∷◌, ◌++◌, length, take, drop, sym, refl, ap, ◌∙◌, append_assoc, append-nil, arith}
-use Rattle.std.proofs.lemmas.List.{length-append, length-take-le, take_at, drop_at, drop-drop, drop_all, take-append-drop}
+use Rattle.std.proofs.Common.{◌≡◌, ℕ, ◌+◌, ◌*◌, ◌≤◌, List, [], ◌∷◌, ◌++◌, length, take, drop, sym, ap, ◌∙◌, append_assoc, append-nil, arith}
+use Rattle.std.proofs.lemmas.List.{length-append, map-id, length-take-le, length-drop, take_at, drop_at, drop-drop, drop_all, take-append-drop}
+use Rattle.std.proofs.lemmas.List.Concat.{flat_map_single}
 use Rattle.std.specs.List.{flat_map}
 use Rattle.program.specs.Rooms.{over}
 
 module _ {A : Type 0} where
   pub over_none : (room : List A) (k : ℕ) → over room k [] ≡ room
   over_none room k = let e : k + 0 ≡ k = omega arith in rw e (take-append-drop k room)
+
+  pub length_over : (room xs : List A) (k : ℕ) → k + length xs ≤ length room → length (over room k xs) ≡ length room
+  length_over room xs k l = simp (length-append, length-take-le k room (omega arith), length-drop) (omega arith)
 
   pub over_over : (room xs ys : List A) (k n : ℕ) → k ≤ length room → n ≡ k + length xs → over (over room k xs) n ys ≡ over room k (xs ++ ys)
   over_over room xs ys k n l e =
@@ -30,23 +34,15 @@ module _ {A : Type 0} where
       let z : drop (0 + length xs) room ≡ [] = drop_all (0 + length xs) room (omega (arith, e)) in
       ap (λ (y : List A). xs ++ y) z ∙ append-nil xs
 
-  pub joined_append : {X : Type 0} (f : X → List A) (xs ys : List X) → flat_map f (xs ++ ys) ≡ flat_map f xs ++ flat_map f ys
-  joined_append f [] ys = refl
-  joined_append f (x ∷ xs) ys = ap (λ (z : List A). f x ++ z) (joined_append f xs ys) ∙ sym (append_assoc (f x) (flat_map f xs) (flat_map f ys))
-
   pub length_joined : {X : Type 0} (f : X → List A) (w : ℕ) → ((x : X) → length (f x) ≡ w) → (xs : List X) → length (flat_map f xs) ≡ w * length xs
   length_joined f w e [] = omega arith
   length_joined f w e (x ∷ xs) =
       let rest : length (flat_map f xs) ≡ w * length xs = length_joined f w e xs in
       length-append (f x) (flat_map f xs) ∙ omega (arith, e x)
 
-  joined_single : (xs : List A) → flat_map (λ (x : A). x ∷ []) xs ≡ xs
-  joined_single [] = refl
-  joined_single (x ∷ xs) = ap (λ (z : List A). x ∷ z) (joined_single xs)
-
   -- a vector that was filled whole, as it is read back
   pub refilled_whole : (items room room₁ xs : List A) (n : ℕ) → room₁ ≡ over room 0 (flat_map (λ (x : A). x ∷ []) xs) → length room ≡ length xs → n ≡ length xs →
       take n (room₁ ++ drop (length room₁) items) ≡ xs
   refilled_whole items room room₁ xs n e l h =
-      let is : room₁ ≡ xs = e ∙ ap (over room 0) (joined_single xs) ∙ over_all room xs l in
+      let is : room₁ ≡ xs = e ∙ ap (over room 0) (flat_map_single (λ (x : A). x) xs ∙ map-id xs) ∙ over_all room xs l in
       rw is (take_at xs (drop (length xs) items) n (sym h))

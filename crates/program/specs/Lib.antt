@@ -5,4 +5,5 @@ pub mod Nodes
 pub mod Programs
 pub mod Rooms
 pub mod Targets
+pub mod Sound
 pub mod Walks

@@ -1,10 +1,11 @@
 // How many targets each node says, in one pass over the nodes. Counts stop at 2^64 - 1, more than any room holds.
-ghost use Rattle.std.specs.Prelude.{◌≡◌, ◌-◌, ◌^◌, min, true, slice_index};
+ghost use Rattle.std.specs.Prelude.{◌≡◌, ◌-◌, ◌≤◌, ◌^◌, min, true, slice_index};
 ghost use Rattle.program.specs.Answers.{names_below};
 ghost use Rattle.program.specs.Nodes.{nodes as node_count};
-ghost use Rattle.program.specs.Walks.{counted, Counts, Sound};
+ghost use Rattle.program.specs.Sound.{counted, CountsOr};
 
 use super::node::Node;
+use refusal::Refusal;
 
 pub const MOST_NODES: usize = 1024;
 
@@ -21,13 +22,17 @@ fn count(node: Node, counts: &[u64; MOST_NODES]) -> u64
     }
 }
 
-pub fn count_all(nodes: &[i64]) -> [u64; MOST_NODES]
-    requires { Sound nodes.now }
-    ensures { Counts nodes.now result (node_count nodes.now) }
+// Refuses the first node that has no kind, or names itself or a later one.
+pub fn count_all(nodes: &[i64]) -> Result<[u64; MOST_NODES], Refusal>
+    requires { node_count nodes.now ≤ 1024 }
+    ensures { CountsOr nodes.now result }
 {
     let mut counts = [0; MOST_NODES];
-    for n in 0..nodes.len() / 4 {
-        counts[n] = count(Node::read(nodes, n), &counts);
+    for (n, numbers) in nodes.as_chunks::<4>().0.iter().enumerate() {
+        match Node::of(numbers) {
+            Some(node) if node.names_below(n) => counts[n] = count(node, &counts),
+            _ => return Err(Refusal::Node(n as u64)),
+        }
     }
-    counts
+    Ok(counts)
 }

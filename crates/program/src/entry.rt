@@ -3,12 +3,13 @@ ghost use Rattle.std.specs.Prelude.{◌≡◌, ◌/◌, ◌^◌, min, length};
 ghost use Rattle.program.specs.Answers.{answer, refusal_of, room_after, said};
 ghost use Rattle.program.specs.Loads.{Loaded};
 
-use super::check::{checked, run};
+use super::program::Program;
 use super::target::Target;
 use geometry::Place;
 use refusal::{Failed, Refusal};
 use std::alloc::Global;
 
+// No `Result`: those who call `say` were promised these two cases by name.
 #[derive(Clone, Copy, PartialEq, Eq, Debug)]
 pub enum Said {
     // So many targets.
@@ -25,13 +26,9 @@ pub fn say(nodes: &[i64], room: &mut [i64]) -> Said
     ensures answer { result ≡ answer (refusal_of nodes.now (length room.old / 3)) (said nodes.now) }
     ensures room { room.new ≡ room_after (refusal_of nodes.now (length room.old / 3)) (said nodes.now) room.old }
 {
-    let counts = match checked(nodes, room.len() as u64 / 3) {
-        Ok(counts) => counts,
-        Err(refusal) => return Said::Refused(refusal),
-    };
-    // The checks have found every target within reach, so this one is not refused.
-    match run(nodes, &counts, room) {
-        Ok(targets) => Said::Says(targets),
+    match Program::checked(nodes, room.len() as u64 / 3) {
+        // The checks have found every target within reach.
+        Ok(program) => Said::Says(program.run(room).unwrap()),
         Err(refusal) => Said::Refused(refusal),
     }
 }
@@ -40,12 +37,12 @@ pub fn say(nodes: &[i64], room: &mut [i64]) -> Said
 pub fn load(heap: Global, nodes: &[i64], most: u64) -> Result<Vec<Target>, Failed<Refusal>>
     ensures { Loaded nodes.now (min most (2 ^ 60)) result }
 {
-    let counts = checked(nodes, most.min(MOST_TARGETS))?;
+    let program = Program::checked(nodes, most.min(MOST_TARGETS))?;
     let nowhere = Target {
         to: Place::ORIGIN,
         fast: 0,
     };
-    let mut targets = vec![in heap; nowhere; counts[nodes.len() / 4 - 1] as usize]?;
-    run(nodes, &counts, targets.as_mut_slice())?;
+    let mut targets = vec![in heap; nowhere; program.targets() as usize]?;
+    program.run(targets.as_mut_slice()).unwrap();
     Ok(targets)
 }

@@ -3,13 +3,12 @@
 
 #![tactic(auto)]
 
-mod check;
 mod counts;
 mod entry;
 mod laws;
 mod node;
+mod program;
 mod slot;
-mod state;
 mod target;
 mod walk;
 

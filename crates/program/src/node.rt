@@ -1,8 +1,8 @@
-// A node of a program, decoded from its four numbers. A node names others by their number.
-ghost use Rattle.std.specs.Prelude.{◌≡◌, ◌+◌, ◌*◌, ◌<◌, ◌≤◌, length};
-ghost use Rattle.count.specs.Counts.{size};
-ghost use Rattle.program.specs.Nodes.{node_of, node_in};
-ghost use Rattle.program.specs.Answers.{names_below, well_named};
+// A node of a program, decoded from its four numbers. It names others by their number, as in the format in which programs
+// are lent, where a node may be named many times.
+ghost use Rattle.std.specs.Prelude.{◌≡◌};
+ghost use Rattle.program.specs.Nodes.{decoded};
+ghost use Rattle.program.specs.Answers.{names_below};
 
 use count::count;
 use geometry::Place;
@@ -30,11 +30,14 @@ pub enum Node {
 }
 
 impl Node {
-    // The node of a kind with its three numbers. A kind above 8 is refused before anyone looks at what it gives.
-    fn of(kind: u64, a: i64, b: i64, c: i64) -> Node
-        ensures { result ≡ node_of kind a b c }
+    // The node of four numbers: its kind, and what that kind has. None if there is no such kind. A walk decodes a node at
+    // each step, so this is to be inlined there.
+    #[inline]
+    pub fn of(numbers: &[i64; 4]) -> Option<Node>
+        ensures { result ≡ decoded numbers.now }
     {
-        match kind {
+        let [kind, a, b, c] = *numbers;
+        let node = match count(kind) {
             0 => Node::Nothing,
             1 => Node::To(Place { x: a, y: b }, count(c)),
             2 => Node::By(Place { x: a, y: b }, count(c)),
@@ -43,17 +46,10 @@ impl Node {
             5 => Node::At(Place { x: a, y: b }, count(c) as usize),
             6 => Node::Turn(count(a) as usize),
             7 => Node::Mirror(count(a) as usize),
-            _ => Node::Sub(count(a) as usize),
-        }
-    }
-
-    // The node n.
-    pub fn read(nodes: &[i64], n: usize) -> Node
-        requires { 4 * n + 4 ≤ length nodes.now }
-        ensures { result ≡ node_in nodes.now n }
-    {
-        let kind = count(nodes[4 * n]);
-        Node::of(kind, nodes[4 * n + 1], nodes[4 * n + 2], nodes[4 * n + 3])
+            8 => Node::Sub(count(a) as usize),
+            _ => return None,
+        };
+        Some(node)
     }
 
     // Whether it names only nodes before n.
@@ -67,12 +63,4 @@ impl Node {
                 < n,
         }
     }
-}
-
-// Whether the node n has a kind, and names only earlier ones.
-pub fn is_well_named(nodes: &[i64], n: usize) -> bool
-    requires { 4 * n + 4 ≤ length nodes.now }
-    ensures { result ≡ well_named nodes.now n }
-{
-    count(nodes[4 * n]) <= 8 && Node::read(nodes, n).names_below(n)
 }

@@ -6,7 +6,7 @@ ghost use Rattle.std.proofs.Common.{rules};
 
 use super::target::Target;
 
-pub trait Slot: Sized {
+pub trait Slot: Sized + Drop {
     // How many hold a target, and which these are.
     ghost width: { ℕ };
 
@@ -28,6 +28,7 @@ impl Slot for i64 {
 
     ghost sized = { Prim.search rules };
 
+    // No `From` for the three numbers: it would need an answer for a speed past an i64, and no target here has one.
     fn store(room: &mut [i64], behind: u64, target: Target) {
         let start = 3 * behind as usize;
         room[start..start + 3].copy_from_slice(&[target.to.x, target.to.y, target.fast as i64]);
@@ -47,6 +48,7 @@ impl Slot for Target {
 }
 
 // Where a target is only looked at.
+#[derive(Drop)]
 pub struct Unkept;
 
 impl Slot for Unkept {
