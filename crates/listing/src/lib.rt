@@ -46,14 +46,11 @@ impl Line {
         }
     }
 
-    fn put(self, heap: Global, text: &mut String, depth: u64) -> Result<(), AllocError>
+    fn put(self, text: &mut String, depth: u64) -> Result<(), AllocError>
         ensures { OnOk result (string_bytes text.new ≡ string_bytes text.old ++ whole_line depth self) }
     {
         indent(text, self.depth(depth).min(20))?;
-        let shown = self.to_string(heap)?;
-        text.push_str(shown.as_str())?;
-        text.push_str("\n")?;
-        Ok(())
+        writeln!(text, "{self}")
     }
 }
 
@@ -82,7 +79,7 @@ pub fn write(heap: Global, lines: &[Line]) -> Result<String, AllocError>
     let mut text = String::new(heap);
     let mut depth: u64 = 0;
     for line in lines {
-        line.put(heap, &mut text, depth)?;
+        line.put(&mut text, depth)?;
         depth = line.after(depth);
     }
     Ok(text)

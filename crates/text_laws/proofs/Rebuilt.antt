@@ -5,8 +5,9 @@ use Rattle.std.proofs.lemmas.Bool.{false_from_ne_true, cases_lt}
 use Rattle.std.proofs.lemmas.Bool.Decides.{Decides-int_eq}
 use Rattle.text.specs.declared.phase.Block.{Block}
 use Rattle.text.specs.declared.phase.Block.TheVariants.{Repeat, Offset, Turned, Mirrored}
+use Rattle.text.specs.declared.phase.Move.{Move}
 use Rattle.text.specs.declared.phase.Move.TheVariants.{Absolute, Incremental}
-use Rattle.text.specs.Nodes.{Laid, next_node, node, joined, with_line, body_named, body_filled, body_of, body_nodes, block_node}
+use Rattle.text.specs.Nodes.{Laid, next_node, node, move_kind, joined, with_line, body_named, body_filled, body_of, body_nodes, block_node}
 use Rattle.text_laws.specs.Trees.{Tree, done, go, call, block, Program, ProperTree, ProperSubs, Proper, anew, with_block, lay, Told, tell, tell_all, told, nodes_of}
 use Rattle.std.specs.Option.{option_map, option_and_then}
 use Rattle.std.specs.Ordering.{int_eq}
@@ -90,12 +91,12 @@ Knows subs ps = (k : ℕ) → k < length subs → place_of (get_or subs k (pos 0
 
 place_append : (a : ℤ) (ps qs : List Part) (k : ℕ) → place_of a ps ≡ Some k → place_of a (ps ++ qs) ≡ Some k
 unfolding place_of
-place_append a [] qs k e = absurd (let z : ◌≡◌ {A = ℕ} 0 1 = cc in omega arith)
+place_append a [] qs k e = absurd cc
 place_append a (p ∷ ps) qs k e = goes (int_eq p.name a) (place_of a ps) (place_of a (ps ++ qs)) (λ j. place_append a ps qs j) e
   where
     goes : (b : Bool) (o q : Option ℕ) → ((j : ℕ) → o ≡ Some j → q ≡ Some j) → cond b (Some 0) (option_map (λ j. j + 1) o) ≡ Some k → cond b (Some 0) (option_map (λ j. j + 1) q) ≡ Some k
     goes true o q h e = e
-    goes false None q h e = absurd (let z : ◌≡◌ {A = ℕ} 0 1 = cc in omega arith)
+    goes false None q h e = absurd cc
     goes false (Some j) q h e = rw (h j refl) e
 
 knows_more : (subs : List ℤ) (p : Part) (ps : List Part) → Knows subs ps → Knows subs (p ∷ ps)
@@ -122,6 +123,10 @@ goes_block (Offset x y) body last ns t u ps q f = goes_line last ns (pos 5) x y 
 goes_block Turned body last ns t u ps q f = goes_line last ns (pos 6) body (pos 0) (pos 0) u (block Turned t done) ps (part body t ∷ stacked last u ps) q f (rw (int_eq_equiv.refl body))
 goes_block Mirrored body last ns t u ps q f = goes_line last ns (pos 7) body (pos 0) (pos 0) u (block Mirrored t done) ps (part body t ∷ stacked last u ps) q f (rw (int_eq_equiv.refl body))
 
+push_move : (way : Move) (n x y speed : ℤ) (ps : List Part) → push_node n (move_kind way) x y speed ps ≡ Some (part n (go way x y speed done) ∷ ps)
+push_move Absolute n x y speed ps = refl
+push_move Incremental n x y speed ps = refl
+
 -- lines are laid behind those so far, and lead to all of them
 record Leads (l m : Laid) (u v : Tree) (ps : List Part) : Type 0 where
   goes : Goes l.nodes (stacked l.last u ps) m.nodes (stacked m.last v ps)
@@ -138,15 +143,10 @@ leads_after l m k u one t ps g h =
 leads_tree : (t : Tree) (subs : List ℤ) (l : Laid) (u : Tree) (ps : List Part) → Quads l.nodes → SoFar l.last u → Knows subs ps → ProperTree (length subs) t → Leads l (lay subs t l) u (then u t) ps
 unfolding lay then Knows
 leads_tree done subs l u ps q f kn ok = subst (λ (v : Tree). Leads l l u v ps) (sym (then_done u)) (record { goes = goes_none l.nodes (stacked l.last u ps) q; so_far = f })
-leads_tree (go Absolute x y speed t) subs l u ps q f kn ok =
-    let one : Tree = go Absolute x y speed done in
-    let m : Laid = with_line (node (pos 1) x y speed) l in
-    let g = goes_line l.last l.nodes (pos 1) x y speed u one ps (stacked l.last u ps) q f refl in
-    leads_after l m (lay subs t m) u one t ps g (leads_tree t subs m (then u one) ps g.quads (so_far_line l.last l.nodes _ (then u one)) kn ok.3)
-leads_tree (go Incremental x y speed t) subs l u ps q f kn ok =
-    let one : Tree = go Incremental x y speed done in
-    let m : Laid = with_line (node (pos 2) x y speed) l in
-    let g = goes_line l.last l.nodes (pos 2) x y speed u one ps (stacked l.last u ps) q f refl in
+leads_tree (go way x y speed t) subs l u ps q f kn ok =
+    let one : Tree = go way x y speed done in
+    let m : Laid = with_line (node (move_kind way) x y speed) l in
+    let g = goes_line l.last l.nodes (move_kind way) x y speed u one ps (stacked l.last u ps) q f (push_move way _ x y speed (stacked l.last u ps)) in
     leads_after l m (lay subs t m) u one t ps g (leads_tree t subs m (then u one) ps g.quads (so_far_line l.last l.nodes _ (then u one)) kn ok.3)
 leads_tree (call k t) subs l u ps q f kn ok =
     let one : Tree = call k done in

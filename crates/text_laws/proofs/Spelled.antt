@@ -8,6 +8,7 @@ use Rattle.std.proofs.lemmas.List.{append_assoc, append-nil}
 use Rattle.std.proofs.lemmas.Str.Parse.{digit_from_value}
 use Rattle.std.proofs.lemmas.Int.{ints}
 use Rattle.std.proofs.lemmas.Bool.{ne_eqb}
+use Rattle.std.proofs.lemmas.Bool.Decides.{nat_tests}
 use Rattle.listing.specs.declared.Line.{Line}
 use Rattle.listing.specs.declared.Line.TheVariants.{Go, Use, Begin, BeginSub, End}
 use Rattle.text.specs.declared.phase.Block.TheVariants.{Repeat, Offset, Turned, Mirrored}
@@ -54,8 +55,7 @@ toks_word [] rest some h s = absurd (omega arith)
 toks_word (c ∷ cs) rest some h s = toks_letters (c ∷ cs) [] rest h ∙ word_ends c cs rest s
 
 digit_letter : (b : ℕ) → IsInRange 48 57 b → kind b ≡ Letter
-digit_letter b h =
-    rw (ne_eqb b 32 (λ e. omega arith), ne_eqb b 9 (λ e. omega arith), ne_eqb b 13 (λ e. omega arith), ne_eqb b 10 (λ e. omega arith), ne_eqb b 59 (λ e. omega arith), ne_eqb b 123 (λ e. omega arith), ne_eqb b 125 (λ e. omega arith))
+digit_letter b h = grind (arith, nat_tests)
 
 digits_letters : (ds : List ℕ) → AllDigits 10 ds → Letters ds
 digits_letters [] h = tt
@@ -127,30 +127,24 @@ abbrev pub SmallLines : List Line → Type 0
 SmallLines [] = Unit {0}
 SmallLines (l ∷ ls) = SmallLine l × SmallLines ls
 
-no_letter : (k : Kind) → k ≡ Gap → k ≡ Letter → ⊥
-no_letter k e f = let z : ◌≡◌ {A = ℕ} 0 1 = cc in omega arith
-
-no_letter_mark : (k : Kind) → k ≡ Mark → k ≡ Letter → ⊥
-no_letter_mark k e f = let z : ◌≡◌ {A = ℕ} 0 1 = cc in omega arith
-
 toks_move : (x y speed : ℤ) (rest : List ℕ) → Small x → Small y → Small speed → toks [] ((signed_decimal x ++ (codes " " ++ (signed_decimal y ++ (codes " fast " ++ (signed_decimal speed ++ codes ";"))))) ++ rest) ≡ Number x ∷ Number y ∷ Word Fast ∷ Number speed ∷ Word Semicolon ∷ toks [] rest
 unfolding toks
 toks_move x y speed rest a b c =
-    toks_number x _ rest a (no_letter _ refl)
-    ∙ ap (λ (ts : List Token). Number x ∷ ts) (toks_number y _ rest b (no_letter _ refl))
-    ∙ ap (λ (ts : List Token). Number x ∷ Number y ∷ Word Fast ∷ ts) (toks_number speed _ rest c (no_letter_mark _ refl))
+    toks_number x _ rest a (λ e. cc)
+    ∙ ap (λ (ts : List Token). Number x ∷ ts) (toks_number y _ rest b (λ e. cc))
+    ∙ ap (λ (ts : List Token). Number x ∷ Number y ∷ Word Fast ∷ ts) (toks_number speed _ rest c (λ e. cc))
 
 toks_line : (l : Line) (rest : List ℕ) → SmallLine l → toks [] (line_text l ++ rest) ≡ line_tokens l ++ toks [] rest
 unfolding toks
 toks_line (Go Absolute x y speed) rest h = ap (λ (ts : List Token). Word To ∷ ts) (toks_move x y speed rest h.0 h.1 h.2)
 toks_line (Go Incremental x y speed) rest h = ap (λ (ts : List Token). Word By ∷ ts) (toks_move x y speed rest h.0 h.1 h.2)
-toks_line (Use name) rest h = ap (λ (ts : List Token). Word Sub ∷ ts) (toks_number name _ rest h (no_letter_mark _ refl))
-toks_line (Begin (Repeat n)) rest h = toks_number n _ rest h (no_letter _ refl)
+toks_line (Use name) rest h = ap (λ (ts : List Token). Word Sub ∷ ts) (toks_number name _ rest h (λ e. cc))
+toks_line (Begin (Repeat n)) rest h = toks_number n _ rest h (λ e. cc)
 toks_line (Begin (Offset x y)) rest h =
-    ap (λ (ts : List Token). Word At ∷ ts) (toks_number x _ rest h.0 (no_letter _ refl) ∙ ap (λ (ts : List Token). Number x ∷ ts) (toks_number y _ rest h.1 (no_letter _ refl)))
+    ap (λ (ts : List Token). Word At ∷ ts) (toks_number x _ rest h.0 (λ e. cc) ∙ ap (λ (ts : List Token). Number x ∷ ts) (toks_number y _ rest h.1 (λ e. cc)))
 toks_line (Begin Turned) rest h = refl
 toks_line (Begin Mirrored) rest h = refl
-toks_line (BeginSub name) rest h = ap (λ (ts : List Token). Word Sub ∷ ts) (toks_number name _ rest h (no_letter _ refl))
+toks_line (BeginSub name) rest h = ap (λ (ts : List Token). Word Sub ∷ ts) (toks_number name _ rest h (λ e. cc))
 toks_line End rest h = refl
 
 toks_indented : (n : ℕ) (rest : List ℕ) → toks [] (indented n ++ rest) ≡ toks [] rest
