@@ -4,6 +4,6 @@ pub mod Loads
 pub mod Nodes
 pub mod Programs
 pub mod Rooms
-pub mod Targets
 pub mod Sound
+pub mod Targets
 pub mod Walks
