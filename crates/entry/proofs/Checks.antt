@@ -1,28 +1,13 @@
 -- What holds where no check fails.
-use Rattle.std.proofs.Common.{◌≡◌, ℕ, zero, suc, ◌%◌, ◌≤◌, Bool, true, false, cond, eqb, List, [], ◌∷◌, ◌++◌, length, ℤ, pos, negsuc, nat_abs, Some, None, Ok, Err, Option, sym, refl, ◌∙◌, arith, eqb-true, leb-true}
+use Rattle.std.proofs.Common.{◌≡◌, ℕ, zero, suc, ◌%◌, ◌≤◌, Bool, true, false, cond, eqb, List, [], ◌∷◌, ◌++◌, length, ℤ, pos, negsuc, nat_abs, Some, None, Ok, Option, sym, refl, ◌∙◌, arith, eqb-true, leb-true}
 use Rattle.std.proofs.lemmas.Bool.{and_parts}
-use Rattle.refusal.specs.declared.MachinePart.TheVariants.{Change, Top}
 use Rattle.refusal.specs.declared.Refusal.{Refusal}
-use Rattle.refusal.specs.declared.Refusal.TheVariants.{Machine as Unfit}
 use Rattle.geometry.specs.Places.{within}
 use Rattle.work.specs.declared.machine.Machine.{Machine}
 use Rattle.control.specs.Controls.{in_range, machine_of, near}
+use Rattle.control.proofs.States.{taken}
 use Rattle.entry.specs.Entries.{nth, targets_in, work_in, all_within, sound, Check, first, targets_checks, memory_checks, event_checks, refusal_of, InRange}
 use Rattle.count.specs.Counts.{size}
-
--- a machine that is taken
-pub record Taken (a t : ℕ) (m : Machine) : Type 0 where
-  pub is : m ≡ record { change = a; top = t }
-  pub changes : in_range a ≡ true
-  pub moves : in_range t ≡ true
-
-pub taken : (a t : ℕ) (m : Machine) → Ok m ≡ machine_of a t → Taken a t m
-taken a t m e = by (in_range a) (in_range t) refl refl e
-  where
-    by : (x y : Bool) → in_range a ≡ x → in_range t ≡ y → Ok m ≡ cond x (cond y (Ok (record { change = a; top = t })) (Err (Unfit Top))) (Err (Unfit Change)) → Taken a t m
-    by true true i j e = record { is = cc; changes = i; moves = j }
-    by true false i j e = cc
-    by false y i j e = cc
 
 -- checks that pass leave it to the others, and one that fails does not
 pub go_on : (xs ys : List Check) → first xs ≡ None → first (xs ++ ys) ≡ first ys
