@@ -1,8 +1,6 @@
 -- The same of a loaded control, whose invariant says how its state came about.
-use Rattle.std.proofs.Common.{◌≡◌, ℕ, ◌^◌, ◌<◌, ◌≤◌, Bool, true, false, cond, ◌⊎◌, List, [], ◌∷◌, ◌++◌, length, drop, Ok, Err, sym, refl, ap, ◌∙◌, subst, inl, inr, ⊎_elim, arith, drop_of_length-le}
+use Rattle.std.proofs.Common.{◌≡◌, ℕ, ◌^◌, ◌<◌, ◌≤◌, Bool, true, false, cond, ◌⊎◌, List, [], ◌∷◌, ◌++◌, length, drop, Ok, sym, refl, ap, ◌∙◌, subst, inl, inr, ⊎_elim, arith, drop_of_length-le}
 use Rattle.std.proofs.lemmas.List.{drop-append-le}
-use Rattle.refusal.specs.declared.MachinePart.TheVariants.{Change, Top}
-use Rattle.refusal.specs.declared.Refusal.TheVariants.{Machine as Unfit}
 use Rattle.geometry.specs.declared.place.Place.{Place}
 use Rattle.geometry.specs.Places.{within, Within}
 use Rattle.program.specs.declared.target.Target.{Target}
@@ -70,12 +68,7 @@ pub record Taken (a t : ℕ) (m : Machine) : Type 0 where
   pub moves : in_range t ≡ true
 
 pub taken : (a t : ℕ) (m : Machine) → Ok m ≡ machine_of a t → Taken a t m
-taken a t m e = by (in_range a) (in_range t) refl refl e
-  where
-    by : (x y : Bool) → in_range a ≡ x → in_range t ≡ y → Ok m ≡ cond x (cond y (Ok (record { change = a; top = t })) (Err (Unfit Top))) (Err (Unfit Change)) → Taken a t m
-    by true true i j e = record { is = cc; changes = i; moves = j }
-    by true false i j e = cc
-    by false y i j e = cc
+taken a t m e = record { is = grind arith; changes = grind arith; moves = grind arith }
 
 pub fit_of : (a t : ℕ) (m : Machine) → Ok m ≡ machine_of a t → fit m ≡ true
 fit_of a t m e = let k = taken a t m e in rw (k.is, k.changes, k.moves)
