@@ -51,6 +51,21 @@ place_more m ts us w s = by (todo ts w) refl
         ap (stands w) i ∙ sym (ap (stands w) (more ∙ ap (λ (ys : List Target). ys ++ us) i) ∙ begins w us c.0)
     by (t ∷ xs) i = ap (stands w) i ∙ sym (ap (stands w) (more ∙ ap (λ (ys : List Target). ys ++ us) i))
 
+-- a line that began near, and so many steps of it: the place is not far from 0, 0
+pub record Placed (w : Motion) : Type 0 where
+  pub begins : Within 1000000000 w.from
+  pub short : w.done ≤ 2000000000
+
+pub place_near : (ts : List Target) (w : Motion) → Placed w → Within 4000000000 (place ts w)
+unfolding stands
+place_near ts w p = by (todo ts w)
+  where
+    by : (xs : List Target) → Within 4000000000 (stands w xs)
+    by [] = record { across = omega (arith, p.begins.across); along = omega (arith, p.begins.along) }
+    by (t ∷ us) =
+        let k = strays w.from t.to w.done in
+        record { across = omega (arith, ints, k.0, p.begins.across, p.short); along = omega (arith, ints, k.1, p.begins.along, p.short) }
+
 pub range : (m : Machine) → fit m ≡ true → (1 ≤ m.change) × (m.change ≤ 1000000) × (m.top ≤ 1000000)
 range m f = (grind (arith, nat_tests), grind (arith, nat_tests), grind (arith, nat_tests))
 
@@ -83,14 +98,5 @@ module _ (m : Machine) (ts : List Target) (w : Motion) (f : fit m ≡ true) (h :
         top = omega (arith, (range m f).2);
       }
 
-  -- and it is not far from 0, 0
-  pub place_near : Within 4000000000 (place ts w)
-  unfolding stands
-  place_near = by (todo ts w) refl
-    where
-      by : (xs : List Target) → todo ts w ≡ xs → Within 4000000000 (stands w xs)
-      by [] i = record { across = omega (arith, from_near.across); along = omega (arith, from_near.along) }
-      by (t ∷ us) i =
-          let d : w.done ≤ 2000000000 = (on_the_way t us i).0.short in
-          let k = strays w.from t.to w.done in
-          record { across = omega (arith, ints, k.0, from_near.across); along = omega (arith, ints, k.1, from_near.along) }
+  pub placed : Placed w
+  placed = record { begins = from_near; short = steps_near }

@@ -1,11 +1,6 @@
 -- The same of a loaded control, whose invariant says how its state came about.
-use Rattle.std.proofs.Common.{◌≡◌, ℕ, ◌^◌, ◌<◌, ◌≤◌, Bool, true, false, cond, ◌⊎◌, List, [], ◌∷◌, ◌++◌, length, drop, Ok, Err, sym, refl, ap, ◌∙◌, subst, inl, inr, ⊎_elim, arith, drop_of_length-le}
-use mathlib.Core.Logic.{∥∥₁_elim, ∥∥₁_map}
-use Rattle.std.proofs.Math.Bridge.{le_prop}
-use Rattle.std.proofs.Math.IntN.{ℤ_set}
+use Rattle.std.proofs.Common.{◌≡◌, ℕ, ◌^◌, ◌<◌, ◌≤◌, Bool, true, false, cond, ◌⊎◌, List, [], ◌∷◌, ◌++◌, length, drop, Ok, sym, refl, ap, ◌∙◌, subst, inl, inr, ⊎_elim, arith, drop_of_length-le}
 use Rattle.std.proofs.lemmas.List.{drop-append-le}
-use Rattle.refusal.specs.declared.MachinePart.TheVariants.{Change, Top}
-use Rattle.refusal.specs.declared.Refusal.TheVariants.{Machine as Unfit}
 use Rattle.geometry.specs.declared.place.Place.{Place}
 use Rattle.geometry.specs.Places.{within, Within}
 use Rattle.program.specs.declared.target.Target.{Target}
@@ -27,13 +22,10 @@ use Rattle.control.proofs.Bounds as bounds
 safe : (m : Machine) (ts : List Target) (w : Work) → fit m ≡ true → Reached m ts w → Safe m origin ts w.motion
 safe m ts w f r = subst (λ (v : Work). Safe m origin ts v.motion) (sym r.is) (safe_after m origin ts (bounds.range m f).0 r.events)
 
-pub promise_of : (m : Machine) (ts : List Target) (w : Work) → fit m ≡ true → Reached m ts w → Promise m origin ts w
-promise_of m ts w f r = of_safe m origin ts w (bounds.range m f).0 (safe m ts w f r)
-
 -- an event more
-pub reached_on : (m : Machine) (ts : List Target) (w v : Work) (e : Event) → ∥ Reached m ts w ∥₁ → v ≡ happens m ts e w → ∥ Reached m ts v ∥₁
+reached_on : (m : Machine) (ts : List Target) (w v : Work) (e : Event) → Reached m ts w → v ≡ happens m ts e w → Reached m ts v
 unfolding row
-reached_on m ts w v e r h = ∥∥₁_map r (λ k. record { events = e ∷ k.events; is = h ∙ ap (happens m ts e) k.is })
+reached_on m ts w v e k h = record { events = e ∷ k.events; is = h ∙ ap (happens m ts e) k.is }
 
 -- along more targets an event does the same, but for a tick where none was left: that one changed nothing
 one_more : (m : Machine) (ts us : List Target) (e : Event) (w : Work) → w.motion.behind ≤ length ts
@@ -58,44 +50,41 @@ more_row m ts us f (e ∷ es) =
     ⊎_elim (λ h. record { events = k.events; is = h ∙ k.is }) (λ h. record { events = e ∷ k.events; is = h ∙ ap (happens m (ts ++ us) e) k.is })
     (one_more m ts us e (after m ts origin es) (safe_after m origin ts f es).few)
 
-pub reached_more : (m : Machine) (ts us : List Target) (w : Work) → fit m ≡ true → ∥ Reached m ts w ∥₁ → ∥ Reached m (ts ++ us) w ∥₁
-reached_more m ts us w f r = ∥∥₁_map r (λ k. subst (Reached m (ts ++ us)) (sym k.is) (more_row m ts us (bounds.range m f).0 k.events))
+reached_more : (m : Machine) (ts us : List Target) (w : Work) → fit m ≡ true → Reached m ts w → Reached m (ts ++ us) w
+reached_more m ts us w f k = subst (Reached m (ts ++ us)) (sym k.is) (more_row m ts us (bounds.range m f).0 k.events)
 
 -- the beginning, and a machine that passed its checks
 pub begins_there : (ts : List Target) (w : Work) → w ≡ begun origin → origin ≡ place ts w.motion
 begins_there ts w e = sym (ap (λ (v : Work). place ts v.motion) e ∙ begins (begun origin).motion ts refl)
 
-pub reached_first : (m : Machine) (ts : List Target) (w : Work) → w ≡ begun origin → ∥ Reached m ts w ∥₁
+pub reached_first : (m : Machine) (ts : List Target) (w : Work) → w ≡ begun origin → Reached m ts w
 unfolding row
-reached_first m ts w e = ∣ record { events = []; is = e } ∣₁
+reached_first m ts w e = record { events = []; is = e }
+
+-- a machine that is taken
+pub record Taken (a t : ℕ) (m : Machine) : Type 0 where
+  pub is : m ≡ record { change = a; top = t }
+  pub changes : in_range a ≡ true
+  pub moves : in_range t ≡ true
+
+pub taken : (a t : ℕ) (m : Machine) → Ok m ≡ machine_of a t → Taken a t m
+taken a t m e = record { is = grind arith; changes = grind arith; moves = grind arith }
 
 pub fit_of : (a t : ℕ) (m : Machine) → Ok m ≡ machine_of a t → fit m ≡ true
-fit_of a t m e = by (in_range a) (in_range t) refl refl e
-  where
-    by : (x y : Bool) → in_range a ≡ x → in_range t ≡ y → Ok m ≡ cond x (cond y (Ok (record { change = a; top = t })) (Err (Unfit Top))) (Err (Unfit Change)) → fit m ≡ true
-    by true true i j e = let k : m ≡ record { change = a; top = t } = cc in rw (k, i, j)
-    by true false i j e = cc
-    by false y i j e = cc
+fit_of a t m e = let k = taken a t m e in rw (k.is, k.changes, k.moves)
 
 abbrev state : Machine → List Target → Work → State
 state m ts w = record { machine = m; targets = ts; work = w }
 
 module _ {m : Machine} {ts : List Target} {w : Work} {p : Place} (k : IsLoaded m ts w p) where
-  near_first : (t : Target) (us : List Target) → todo ts w.motion ≡ t ∷ us → NearLine w.motion t
-  near_first t us e = ∥∥₁_elim k.reached (hlevel le_prop) (λ r. bounds.near_first m ts w.motion k.fits k.close (safe m ts w k.fits r) t us e)
-
-  slow_first : length ts < 2 ^ 64 → (t : Target) (us : List Target) → todo ts w.motion ≡ t ∷ us → Slow m w.motion
-  slow_first l t us e = ∥∥₁_elim k.reached (hlevel le_prop) (λ r. bounds.slow_first m ts w.motion k.fits k.close (safe m ts w k.fits r) l t us e)
+  held_safe : Safe m origin ts w.motion
+  held_safe = safe m ts w k.fits k.reached
 
   pub near_at : Within 4000000000 p
-  near_at = rw k.stood (∥∥₁_elim k.reached (hlevel le_prop) (λ r. bounds.place_near m ts w.motion k.fits k.close (safe m ts w k.fits r)))
+  near_at = rw k.stood (bounds.place_near ts w.motion (bounds.placed m ts w.motion k.fits k.close held_safe))
 
-  pub promised : ∥ Promise m origin ts w ∥₁
-  promised = ∥∥₁_map k.reached (λ r. promise_of m ts w k.fits r)
-
-  few : Few (state m ts w) (pulses m ts Tick w)
-  few = ∥∥₁_elim k.reached (hlevel le_prop)
-      (λ r. let t = (promise_of m ts w k.fits r).ticked in record { across = omega (arith, t.across, t.few); along = omega (arith, t.along, t.few) })
+  pub promised : Promise m origin ts w
+  promised = of_safe m origin ts w (bounds.range m k.fits).0 held_safe
 
   -- what an event leaves, at the place where it leads
   pub loaded : (e : Event) (v : Work) (q : Place) → v ≡ happens m ts e w → q ≡ place ts v.motion → IsLoaded m ts v q
@@ -116,7 +105,7 @@ module _ {m : Machine} {ts : List Target} {w : Work} {p : Place} (k : IsLoaded m
   gives v q d h i j = j ∙ rw (k.stood, i, h)
 
   pub gives_few : (d : Pulses) → d ≡ pulses m ts Tick w → Few (state m ts w) d
-  gives_few d e = subst (Few (state m ts w)) (sym e) (few k)
+  gives_few d e = let t = (promised k).ticked in rw e (record { across = omega (arith, t.across, t.few); along = omega (arith, t.along, t.few) })
 
   -- an event at the panel does not look at the targets
   pub turned : (e : Event) (v : Work) → (e ≡ Tick → ⊥) → v ≡ does m [] e w → v ≡ happens m ts e w
@@ -127,7 +116,7 @@ module _ {m : Machine} {ts : List Target} {w : Work} {p : Place} (k : IsLoaded m
 
   -- a target more, or none for want of memory: it stands where it stood
   stays : (us : List Target) → place ts w.motion ≡ place (ts ++ us) w.motion
-  stays us = ∥∥₁_elim k.reached (hlevel ℤ_set) (λ r. bounds.place_more m ts us w.motion (safe m ts w k.fits r))
+  stays us = bounds.place_more m ts us w.motion (held_safe k)
 
   pub pushed : (t : Target) (b : Bool) (us : List Target) → within 1000000000 t.to ≡ true → us ≡ cond b (ts ++ t ∷ []) ts → IsLoaded m us w p
   pushed t true us n e = rw e (record {
@@ -141,7 +130,7 @@ module _ {m : Machine} {ts : List Target} {w : Work} {p : Place} (k : IsLoaded m
   -- a tick toward t, the first of the targets still to go
   module _ (t : Target) (us : List Target) (e : todo ts w.motion ≡ t ∷ us) where
     pub slow_toward : length ts < 2 ^ 64 → Slow m w.motion
-    slow_toward l = slow_first k l t us e
+    slow_toward l = bounds.slow_first m ts w.motion k.fits k.close (held_safe k) l t us e
 
     module _ (v : Work) (h : v ≡ does m (t ∷ []) Tick w) where
       pub ticks : v ≡ happens m ts Tick w
@@ -149,7 +138,7 @@ module _ {m : Machine} {ts : List Target} {w : Work} {p : Place} (k : IsLoaded m
       ticks = h ∙ sym (ap (λ (xs : List Target). does m xs Tick w) e)
 
       pub near_toward : v.motion.behind ≡ w.motion.behind → NearLine v.motion t
-      near_toward j = near_first (loaded k Tick v (place ts v.motion) ticks refl) t us (ap (λ (b : ℕ). drop b ts) j ∙ e)
+      near_toward j = bounds.near_first m ts v.motion k.fits k.close (held_safe (loaded k Tick v (place ts v.motion) ticks refl)) t us (ap (λ (b : ℕ). drop b ts) j ∙ e)
 
       pub loaded_on : (q : Place) → q ≡ after_tick v.motion w.motion.behind t → IsLoaded m ts v q
       loaded_on q j = loaded k Tick v q ticks (

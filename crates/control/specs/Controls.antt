@@ -64,7 +64,7 @@ pub record State : Type 0 where
 pub record IsLoaded (m : Machine) (ts : List Target) (w : Work) (p : Place) : Type 0 where
   pub fits : fit m ≡ true
   pub close : near ts ≡ true
-  pub reached : ∥ Reached m ts w ∥₁
+  pub reached : Reached m ts w
   pub stood : p ≡ place ts w.motion
 
 -- what an event makes of a control: what it was loaded with stays, its work is what the event makes of it, and that keeps the promise
@@ -72,7 +72,7 @@ pub record Happened (c : State) (e : Event) (d : State) : Type 0 where
   pub machine : d.machine ≡ c.machine
   pub targets : d.targets ≡ c.targets
   pub work : d.work ≡ happens c.machine c.targets e c.work
-  pub promise : ∥ Promise c.machine origin c.targets d.work ∥₁
+  pub promise : Promise c.machine origin c.targets d.work
   -- it is not far from 0, 0, so that whoever adds up its pulses stays within an i64
   pub near : Within 4000000000 (place d.targets d.work.motion)
 
@@ -84,6 +84,6 @@ pub record Few (c : State) (d : Pulses) : Type 0 where
 -- a target put behind the others: taken, refused because it lies too far, or, near enough, not for want of memory; then nothing changes
 abbrev pub Added : Target → Result (Unit {0}) (Failed Refusal) → State → State → Type 0
 Added t (Ok u) c d =
-    (within 1000000000 t.to ≡ true) × (d.machine ≡ c.machine) × (d.targets ≡ c.targets ++ t ∷ []) × (d.work ≡ c.work) × ∥ Promise c.machine origin d.targets d.work ∥₁
+    (within 1000000000 t.to ≡ true) × (d.machine ≡ c.machine) × (d.targets ≡ c.targets ++ t ∷ []) × (d.work ≡ c.work) × Promise c.machine origin d.targets d.work
 Added t (Err (Refused e)) c d = (within 1000000000 t.to ≡ false) × (e ≡ Lent far) × (d ≡ c)
 Added t (Err Memory) c d = (within 1000000000 t.to ≡ true) × (d ≡ c)

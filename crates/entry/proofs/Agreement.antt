@@ -1,7 +1,7 @@
 -- A loaded control's numbers are taken, and say its work.
-use Rattle.std.proofs.Common.{◌≡◌, ℕ, suc, ◌*◌, ◌/◌, ◌%◌, ◌≤◌, min, max, Bool, true, false, cond, eqb, leb, List, [], ◌∷◌, length, nat_abs, None, sym, refl, ap, ◌∙◌, subst, ⊎_elim, arith, eq-eqb, le-leb}
+use Rattle.std.proofs.Common.{◌≡◌, ℕ, suc, ◌*◌, ◌/◌, ◌≤◌, min, max, Bool, true, false, cond, eqb, List, [], ◌∷◌, length, pos, None, sym, refl, ap, subst, ⊎_elim, arith}
 use Rattle.std.proofs.lemmas.Nat.{mul-le, div_below}
-use Rattle.std.proofs.lemmas.Bool.{and_parts}
+use Rattle.std.proofs.lemmas.Bool.Decides.{nat_tests}
 use Rattle.geometry.specs.Places.{Within}
 use Rattle.program.specs.declared.target.Target.{Target}
 use Rattle.work.specs.declared.machine.Machine.{Machine}
@@ -14,7 +14,7 @@ use Rattle.work.specs.Works.{limit, todo, happens, row, after}
 use Rattle.work.specs.Promises.{cap_now, made, Moved, Ticked}
 use Rattle.work.proofs.Safety.{Safe, safe_after}
 use Rattle.work.proofs.Ticks.{ticked}
-use Rattle.control.specs.Controls.{in_range, fit, near, origin, Reached}
+use Rattle.control.specs.Controls.{fit, near, origin, Reached}
 use Rattle.control.proofs.Bounds.{range, from_near, steps_near}
 use Rattle.entry.specs.Entries.{targets_in, work_in, memory_of, sound, refusal_of}
 use Rattle.entry.specs.Agreement.{flat, Agrees}
@@ -77,22 +77,11 @@ tame_after m ts f (e ∷ es) = by e (tame_after m ts f es)
 -- memory whose numbers are in range is sound
 sound_memory : (w : Work) → w.motion.behind ≤ 2000000000 → Within 1000000000 w.motion.from → w.motion.done ≤ 2000000000
     → w.motion.speed ≤ 2000000000 → w.panel.percent ≤ 100 → sound (memory_of w) ≡ true
-sound_memory w b f d v p =
-    let e0 : leb w.motion.behind 2000000000 ≡ true = le-leb _ _ b in
-    let e1 : leb (nat_abs w.motion.from.x) 2000000000 ≡ true = le-leb _ _ (omega (arith, f.across)) in
-    let e2 : leb (nat_abs w.motion.from.y) 2000000000 ≡ true = le-leb _ _ (omega (arith, f.along)) in
-    let e3 : leb w.motion.done 2000000000 ≡ true = le-leb _ _ d in
-    let e4 : leb w.motion.speed 2000000000 ≡ true = le-leb _ _ v in
-    let e5 : leb (cond w.panel.held 1 0) 2000000000 ≡ true = le-leb _ _ (one_or_none w.panel.held) in
-    let e6 : leb w.panel.percent 2000000000 ≡ true = le-leb _ _ (omega arith) in
-    let e7 : leb w.panel.percent 100 ≡ true = le-leb _ _ p in
-    let e8 : leb (nat_abs w.motion.from.x) 1000000000 ≡ true = le-leb _ _ f.across in
-    let e9 : leb (nat_abs w.motion.from.y) 1000000000 ≡ true = le-leb _ _ f.along in
-    rw (e0, e1, e2, e3, e4, e5, e6, e7, e8, e9)
+sound_memory w b f d v p = by w.panel.held
   where
-    one_or_none : (b : Bool) → cond b 1 0 ≤ 2000000000
-    one_or_none true = omega arith
-    one_or_none false = omega arith
+    by : (h : Bool) → sound (pos w.motion.behind ∷ (w.motion.from.x ∷ (w.motion.from.y ∷ (pos w.motion.done ∷ (pos w.motion.speed ∷ (pos (cond h 1 0) ∷ (pos w.panel.percent ∷ []))))))) ≡ true
+    by true = grind (arith, nat_tests)
+    by false = grind (arith, nat_tests)
 
 module _ (m : Machine) (ts : List Target) (w : Work) (f : fit m ≡ true) (h : near ts ≡ true) (r : Reached m ts w) (n : length ts ≤ 2000000000) where
   safe : Safe m origin ts w.motion
@@ -107,14 +96,7 @@ module _ (m : Machine) (ts : List Target) (w : Work) (f : fit m ≡ true) (h : n
       (omega (arith, tame.slow, (range m f).2)) tame.part
 
   taken : (kind number : ℕ) → kind ≤ 3 → number ≤ 1000 → refusal_of m.change m.top (flat ts) (memory_of w) kind number ≡ None
-  taken kind number k l =
-      let a : in_range m.change ≡ true = (and_parts _ _ f).0 in
-      let b : in_range m.top ≡ true = (and_parts _ _ f).1 in
-      let c : eqb (length (flat ts) % 3) 0 ≡ true = eq-eqb _ _ (omega (arith, long_flat ts)) in
-      let d : near (targets_in (flat ts)) ≡ true = ap near (said ts) ∙ h in
-      let i : leb kind 3 ≡ true = le-leb _ _ k in
-      let j : leb number 1000 ≡ true = le-leb _ _ l in
-      rw (a, b, c, d, kept_sound, i, j)
+  taken kind number k l = rw (said ts, h, kept_sound) (grind (arith, nat_tests, long_flat ts))
 
 pub agrees : Agrees
 agrees m ts w kind number r left f h o n k l d =

@@ -1,11 +1,10 @@
 -- Numbers that passed the checks stay in the ranges that the code asks for, through one event.
 use Rattle.std.proofs.Common.{◌≡◌, ◌+◌, ◌-◌, ◌*◌, ◌^◌, ◌<◌, ◌≤◌, true, List, [], ◌∷◌, Option, slice_get, Some, None, sym, refl, ◌∙◌, subst, inl, inr, arith}
-use Rattle.std.proofs.lemmas.Int.{ints}
 use Rattle.std.proofs.lemmas.Bool.{cases_lt}
 use Rattle.geometry.specs.Places.{Within}
 use Rattle.program.specs.declared.target.Target.{Target}
 use Rattle.line.specs.Lines.{long}
-use Rattle.line.proofs.Walk.{long_within, strays}
+use Rattle.line.proofs.Walk.{long_within}
 use Rattle.speed.proofs.Fastest.{no_more}
 use Rattle.work.specs.declared.machine.Machine.{Machine}
 use Rattle.work.specs.declared.motion.Motion.{Motion}
@@ -13,18 +12,13 @@ use Rattle.work.specs.declared.panel.Panel.{Panel}
 use Rattle.work.specs.declared.work.Work.{Work}
 use Rattle.work.specs.declared.event.Event.{Event}
 use Rattle.work.specs.declared.event.Event.TheVariants.{Tick, Hold, Go, Knob}
-use Rattle.work.specs.Works.{limit, steps, todo, tick, happens, stands, place}
+use Rattle.work.specs.Works.{limit, steps, todo, tick, happens, place}
 use Rattle.work.specs.Ranges.{Near, Ready}
 use Rattle.work.proofs.Ticks.{none, going, ending}
 use Rattle.control.specs.Controls.{near}
-use Rattle.control.proofs.Bounds.{near_in, range}
+use Rattle.control.proofs.Bounds.{Placed, place_near, near_in, range}
 use Rattle.entry.specs.Entries.{InRange}
 use Rattle.entry.proofs.First.{first, next_first}
-
--- what a place asks for
-record Placed (w : Motion) : Type 0 where
-  begins : Within 1000000000 w.from
-  short : w.done ≤ 2000000000
 
 near_next : (ts : List Target) (w : Motion) (next : Option Target) → near ts ≡ true → Placed w → next ≡ slice_get ts w.behind → Near w next
 near_next ts w next h p e = subst (Near w) (sym (e ∙ next_first ts w.behind)) (by (todo ts w) refl)
@@ -32,16 +26,6 @@ near_next ts w next h p e = subst (Near w) (sym (e ∙ next_first ts w.behind)) 
     by : (xs : List Target) → todo ts w ≡ xs → Near w (first xs)
     by [] i = tt
     by (t ∷ us) i = record { begins = p.begins; ends = near_in ts w.behind t us h i; short = p.short }
-
-place_near : (ts : List Target) (w : Motion) → Placed w → Within 4000000000 (place ts w)
-unfolding stands
-place_near ts w p = by (todo ts w)
-  where
-    by : (xs : List Target) → Within 4000000000 (stands w xs)
-    by [] = record { across = omega (arith, p.begins.across); along = omega (arith, p.begins.along) }
-    by (t ∷ us) =
-        let k = strays w.from t.to w.done in
-        record { across = omega (arith, ints, k.0, p.begins.across, p.short); along = omega (arith, ints, k.1, p.begins.along, p.short) }
 
 -- memory's numbers, after an event
 record Kept (w : Motion) : Type 0 where

@@ -3,11 +3,12 @@ use Rattle.std.proofs.lemmas.Int.{to_z-of_z}
 use Rattle.ffi.proofs.Telling.{moved, turned}
 use Rattle.ffi.proofs.events.mill_happen.Goals as goal
 
-pub returns-in-Moved-clause-moved : goal.returns-in-Moved-clause-moved
-returns-in-Moved-clause-moved c =
+pub returns-in-Moved : goal.returns-in-Moved
+returns-in-Moved c =
     let x : SFits w64 c.in-Moved.x = search rules in
     let y : SFits w64 c.in-Moved.y = search rules in
-    simp to_z-of_z (moved _ c.args.targets.now c.args.memory.now _ _ _ _ _ c.args.moved.now c.in-Moved.ensures)
+    let t = moved _ c.args.targets.now c.args.memory.now _ _ _ _ _ c.in-Moved.ensures in
+    rw t.0 (record { code = refl; place = refl; moved = simp to_z-of_z (rw (t.1, t.2)); memory = t.3 })
 
 pub returns-in-Turned : goal.returns-in-Turned
 returns-in-Turned c =

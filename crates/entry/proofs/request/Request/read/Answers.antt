@@ -1,5 +1,6 @@
 use Rattle.std.proofs.lemmas.Result.{err_from_is_err_and}
-use Rattle.entry.proofs.Checks.{taken, memory_refused, none_refused, passed}
+use Rattle.control.proofs.States.{taken}
+use Rattle.entry.proofs.Checks.{memory_refused, none_refused, passed}
 use Rattle.entry.proofs.request.Request.read.Goals as goal
 
 pub returns-in_err-work_in : goal.returns-in_err-work_in
