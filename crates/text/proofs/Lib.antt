@@ -1,3 +1,2 @@
-pub mod Rows
 mod Scans
 mod Taken

@@ -10,7 +10,7 @@
 --   expected_of            what could stand there
 --   reads                  words taken one by one: the nodes, or the first that can't stand where it stands
 --   read                   a text's nodes, or where it can't be read and what was expected there
-use Rattle.std.specs.Prelude.{◌≡◌, ℕ, Bool, true, false, cond, not, ◌&&◌, List, [], ◌∷◌, ◌++◌, length, take, ℤ, pos, is_some, Some, None, Ok, Err, vec_items, Option, Result, Vec, ◌==◌, nat_lt, slice_index_or}
+use Rattle.std.specs.Prelude.{◌≡◌, ℕ, Bool, true, false, cond, not, ◌&&◌, List, [], ◌∷◌, ◌++◌, length, ℤ, pos, is_some, Some, None, Ok, Err, vec_items, Option, Result, Vec, ◌==◌, nat_lt, slice_index_or}
 use Rattle.std.specs.Option.{ok_or}
 use Rattle.std.specs.declared.alloc.Global.{Global}
 use Rattle.count.specs.Counts.{size}
@@ -188,9 +188,6 @@ abbrev pub Answers : Result (List ℤ) Unreadable → Result (Vec ℤ Global) (F
 Answers x (Ok v) = x ≡ Ok (vec_items v)
 Answers x (Err (Refused u)) = x ≡ Err u
 Answers x (Err Memory) = Unit {0}
-
-abbrev pub unreadable_at : List ℕ → ℕ → ℕ → Expected → Unreadable
-unreadable_at text i j e = record { line = feeds (take i text); start = i; «end» = j; expected = e }
 
 abbrev pub error_of : Failed Misplaced → Unreadable → Failed Unreadable
 error_of (Refused e) u = Refused u
