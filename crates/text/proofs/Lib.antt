@@ -1,3 +1,3 @@
-pub mod Rows
+mod Bytes
 mod Scans
 mod Taken

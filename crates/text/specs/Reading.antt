@@ -10,7 +10,7 @@
 --   expected_of            what could stand there
 --   reads                  words taken one by one: the nodes, or the first that can't stand where it stands
 --   read                   a text's nodes, or where it can't be read and what was expected there
-use Rattle.std.specs.Prelude.{◌≡◌, ℕ, Bool, true, false, cond, not, ◌&&◌, List, [], ◌∷◌, ◌++◌, length, take, ℤ, pos, is_some, Some, None, Ok, Err, vec_items, Option, Result, Vec, ◌==◌, nat_lt, slice_index_or}
+use Rattle.std.specs.Prelude.{◌≡◌, ℕ, Bool, true, false, cond, not, ◌&&◌, List, [], ◌∷◌, ◌++◌, length, ℤ, pos, is_some, Some, None, Ok, Err, vec_items, Option, Result, Vec, ◌==◌, nat_lt, slice_index_or}
 use Rattle.std.specs.Option.{ok_or}
 use Rattle.std.specs.declared.alloc.Global.{Global}
 use Rattle.count.specs.Counts.{size}
@@ -45,28 +45,28 @@ abbrev pub empty : Held
 empty = record { laid = record { nodes = []; last = None }; blocks = []; subs = [] }
 
 abbrev pub added : List ℤ → Held → Held
-added line h = record { laid = record { nodes = h.laid.nodes ++ line; last = h.laid.last }; blocks = h.blocks; subs = h.subs }
+added line h = record h { laid = record h.laid { nodes = h.laid.nodes ++ line } }
 
 abbrev pub put_line : List ℤ → Held → Held
-put_line line h = record { laid = with_line line h.laid; blocks = h.blocks; subs = h.subs }
+put_line line h = record h { laid = with_line line h.laid }
 
 abbrev pub bodied : Held → Held
-bodied h = record { laid = record { nodes = body_nodes h.laid; last = h.laid.last }; blocks = h.blocks; subs = h.subs }
+bodied h = record h { laid = record h.laid { nodes = body_nodes h.laid } }
 
 abbrev pub begun : Head → Held → Held
-begun b h = record { laid = record { nodes = h.laid.nodes; last = None }; blocks = record { head = b; before = h.laid.last } ∷ h.blocks; subs = h.subs }
+begun b h = record h { laid = record h.laid { last = None }; blocks = record { head = b; before = h.laid.last } ∷ h.blocks }
 
 -- what a block says, once its body's node is known
 abbrev pub ended : Head → ℤ → Held → Held
 ended (Lines b) body h = put_line (block_node b body) h
-ended SubProgram body h = record { laid = h.laid; blocks = h.blocks; subs = h.subs ++ body ∷ [] }
+ended SubProgram body h = record h { subs = h.subs ++ body ∷ [] }
 
 abbrev pub Next : Type 0
 Next = Option (Phase × Held)
 
 abbrev pub closed : List Opened → Held → Next
 closed [] h = None
-closed (o ∷ os) h = Some (Line, ended o.head (body_of h.laid) (record { laid = record { nodes = body_nodes h.laid; last = o.before }; blocks = os; subs = h.subs }))
+closed (o ∷ os) h = Some (Line, ended o.head (body_of h.laid) (record h { laid = record { nodes = body_nodes h.laid; last = o.before }; blocks = os }))
 
 abbrev pub outside : List Opened → Bool
 outside [] = true
@@ -188,9 +188,6 @@ abbrev pub Answers : Result (List ℤ) Unreadable → Result (Vec ℤ Global) (F
 Answers x (Ok v) = x ≡ Ok (vec_items v)
 Answers x (Err (Refused u)) = x ≡ Err u
 Answers x (Err Memory) = Unit {0}
-
-abbrev pub unreadable_at : List ℕ → ℕ → ℕ → Expected → Unreadable
-unreadable_at text i j e = record { line = feeds (take i text); start = i; «end» = j; expected = e }
 
 abbrev pub error_of : Failed Misplaced → Unreadable → Failed Unreadable
 error_of (Refused e) u = Refused u

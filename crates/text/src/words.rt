@@ -11,10 +11,10 @@ pub struct Word<'a> {
 }
 
 // The words from a place on.
-#[derive(Clone, Copy)]
+#[derive(Drop)]
 pub struct Words<'a> {
-    pub text: &'a [u8],
-    pub at: usize,
+    text: &'a [u8],
+    at: usize,
     ghost within: { at ≤ length text.now },
 }
 

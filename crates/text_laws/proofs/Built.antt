@@ -17,7 +17,7 @@ use Rattle.text_laws.proofs.Alone.{runs, tokens_toks, read_from_runs}
 use Rattle.text_laws.proofs.Spelled.{all_tokens, SmallLines, toks_written}
 
 abbrev with_laid : Laid → Held → Held
-with_laid l h = record { laid = l; blocks = h.blocks; subs = h.subs }
+with_laid l h = record h { laid = l }
 
 -- a block's head, and its end
 block_begins : (b : Block) (h : Held) (ls : List Line) → runs at_line h (all_tokens (Begin b ∷ ls)) ≡ runs at_line (begun (Lines b) h) (all_tokens ls)

@@ -71,7 +71,7 @@ anew ns = record { nodes = ns; last = None }
 
 -- the body of a block is complete, and its line comes behind the lines before it
 abbrev pub with_block : Block → (body before : Laid) → Laid
-with_block b body before = with_line (block_node b (body_of body)) (record { nodes = body_nodes body; last = before.last })
+with_block b body before = with_line (block_node b (body_of body)) (record before { nodes = body_nodes body })
 
 unfoldable pub lay : List ℤ → Tree → Laid → Laid
 lay subs done l = l

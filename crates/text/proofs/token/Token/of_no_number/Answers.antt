@@ -1,19 +1,16 @@
-use Rattle.std.proofs.Common.{arith, ◌≡◌, ℕ, List, ◌∷◌, []}
-use Rattle.std.proofs.lemmas.List.{drop_more, drop_all}
+use Rattle.std.proofs.Common.{◌≡◌, codes, arith}
+use Rattle.text.proofs.Bytes.{byte_by_byte}
 use Rattle.text.proofs.token.Token.of_no_number.Goals as goal
 
--- the check itself puts no more than five bytes together to a word
+-- the longer names are put together byte by byte
+pub returns-in-fast : goal.returns-in-fast
+returns-in-fast c = let e : c.args.word.now ≡ codes "fast" = cc (byte_by_byte c.args.word.now 0 4 (omega arith)) in rw e
+
+pub returns-in-turn : goal.returns-in-turn
+returns-in-turn c = let e : c.args.word.now ≡ codes "turn" = cc (byte_by_byte c.args.word.now 0 4 (omega arith)) in rw e
+
+pub returns-in-times : goal.returns-in-times
+returns-in-times c = let e : c.args.word.now ≡ codes "times" = cc (byte_by_byte c.args.word.now 0 5 (omega arith)) in rw e
+
 pub returns-in-mirror : goal.returns-in-mirror
-returns-in-mirror c =
-    let w : List ℕ = c.args.word.now in
-    let e : w ≡ 109 ∷ 105 ∷ 114 ∷ 114 ∷ 111 ∷ 114 ∷ [] =
-    cc (
-      drop_more w 0 0 (omega arith),
-      drop_more w 1 0 (omega arith),
-      drop_more w 2 0 (omega arith),
-      drop_more w 3 0 (omega arith),
-      drop_more w 4 0 (omega arith),
-      drop_more w 5 0 (omega arith),
-      drop_all 6 w (omega arith),
-    ) in
-    rw e
+returns-in-mirror c = let e : c.args.word.now ≡ codes "mirror" = cc (byte_by_byte c.args.word.now 0 6 (omega arith)) in rw e
