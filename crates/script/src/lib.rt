@@ -15,7 +15,8 @@ mod order;
 mod reader;
 mod scanner;
 mod script;
+mod words;
 
 pub use fault::{Expected, Fault, ScriptError, Wrong};
 pub use reader::read;
-pub use script::{Order, Script};
+pub use script::{Machine, Order, Script};
