@@ -1,2 +1,3 @@
+mod Firsts
+mod Lines
 mod Scans
-mod Steps

@@ -1,62 +1,53 @@
--- What the scanner's loops keep: the lines and the words that are left.
-use Rattle.std.proofs.Common.{◌≡◌, ℕ, zero, suc, ◌+◌, ◌<◌, ◌≤◌, true, false, eqb, List, [], ◌∷◌, length, get_or, take, drop, refl, ◌∙◌, arith}
-use Rattle.std.proofs.lemmas.List.{take_more, drop_more, take_all, drop_all, length-take-le}
-use Rattle.std.proofs.lemmas.Bool.{both_ways}
-use Rattle.script.specs.Words.{gap, begun, row, words_after, words, lines_after, lines}
+-- A line without the gaps that it begins with, and its first word.
+use Rattle.std.proofs.Common.{◌≡◌, ℕ, suc, ◌+◌, true, false, eqb, List, [], ◌∷◌, ◌++◌, length, take, drop, sym, refl, ◌∙◌, inl, inr, append_assoc, append-nil, arith}
+use Rattle.std.specs.List.{prefix_len}
+use Rattle.std.proofs.lemmas.Bool.{cases_Bool, eqb-true, eqb-false}
+use Rattle.script.specs.Words.{gap, letter, begun, words_after, words}
 
--- one byte on
-pub words_gap : (bs : List ℕ) (i : ℕ) → i < length bs → gap (get_or bs i 0) ≡ true → words (drop (i + 1) bs) ≡ words (drop i bs)
+skipped : (bs : List ℕ) → words (drop (prefix_len gap bs) bs) ≡ words bs
 unfolding words_after
-words_gap bs i h e = rw (drop_more bs i 0 h, e)
+skipped [] = refl
+skipped (b ∷ bs) =
+    let n : 1 + prefix_len gap bs ≡ suc (prefix_len gap bs) = omega arith in
+    elim (cases_Bool (gap b)) [
+      | inl e ↦ rw (e, n) (skipped bs)
+      | inr e ↦ rw e (rw e refl)
+    ]
 
-pub words_letter :
-    (bs : List ℕ) (i : ℕ) → i < length bs → gap (get_or bs i 0) ≡ false →
-    words_after (take (i + 1) bs) (drop (i + 1) bs) ≡ words_after (take i bs) (drop i bs)
+taken : (w bs : List ℕ) → words_after w bs ≡ begun (w ++ take (prefix_len letter bs) bs) (words (drop (prefix_len letter bs) bs))
 unfolding words_after
-words_letter bs i h e = rw (drop_more bs i 0 h, take_more bs i 0 h, e)
+taken w [] = rw append-nil refl
+taken w (b ∷ bs) =
+    let n : 1 + prefix_len letter bs ≡ suc (prefix_len letter bs) = omega arith in
+    elim (cases_Bool (gap b)) [
+      | inl e ↦ rw (e, append-nil) (rw e refl)
+      | inr e ↦ rw (e, n) (taken (w ++ b ∷ []) bs ∙ rw append_assoc refl)
+    ]
 
-pub words_stop :
-    (bs : List ℕ) (i : ℕ) → i < length bs → gap (get_or bs i 0) ≡ true →
-    words_after (take i bs) (drop i bs) ≡ begun (take i bs) (words (drop i bs))
-unfolding words_after
-words_stop bs i h e = rw (drop_more bs i 0 h, e)
+-- what stands behind the gaps begins with a word, if anything does
+starts : (bs : List ℕ) → let from = drop (prefix_len gap bs) bs in take (prefix_len letter from) from ≡ [] → from ≡ []
+starts [] e = refl
+starts (b ∷ bs) e =
+    let n : 1 + prefix_len gap bs ≡ suc (prefix_len gap bs) = omega arith in
+    let m : 1 + prefix_len letter bs ≡ suc (prefix_len letter bs) = omega arith in
+    elim (cases_Bool (gap b)) [
+      | inl g ↦ rw (g, n) (starts bs (rw (g, n) at e))
+      | inr g ↦ let f = rw (g, g, m) at e in cc
+    ]
 
-pub words_end :
-    (bs : List ℕ) (i : ℕ) → length bs ≤ i → words_after (take i bs) (drop i bs) ≡ begun (take i bs) (words (drop i bs))
-unfolding words_after
-words_end bs i h = rw (drop_all i bs h)
+-- a line, what stands behind its gaps, the word w that this begins with, and the rest
+module _ (bs from rest : List ℕ) (e : from ≡ drop (prefix_len gap bs) bs) (g : rest ≡ drop (prefix_len letter from) from) where
+  first_word : (w : List ℕ) → w ≡ take (prefix_len letter from) from → words bs ≡ begun w (words rest)
+  first_word w f = sym (skipped bs) ∙ rw (f, g, ← e) (taken [] from)
 
-pub lines_letter :
-    (bs : List ℕ) (i : ℕ) → i < length bs → eqb (get_or bs i 0) 10 ≡ false →
-    lines_after (take (i + 1) bs) (drop (i + 1) bs) ≡ lines_after (take i bs) (drop i bs)
-unfolding lines_after
-lines_letter bs i h e = rw (drop_more bs i 0 h, take_more bs i 0 h, e)
+  pub some_word : (w : List ℕ) → w ≡ take (prefix_len letter from) from → eqb (length w) 0 ≡ false → words bs ≡ w ∷ words rest
+  some_word [] f n = absurd (eqb-false 0 0 n refl)
+  some_word (c ∷ cs) f n = first_word (c ∷ cs) f
 
-pub lines_stop :
-    (bs : List ℕ) (i : ℕ) → i < length bs → eqb (get_or bs i 0) 10 ≡ true →
-    lines_after (take i bs) (drop i bs) ≡ take i bs ∷ lines (drop (i + 1) bs)
-unfolding lines_after
-lines_stop bs i h e = rw (drop_more bs i 0 h, e)
-
--- the last line has no line feed
-pub lines_end : (bs : List ℕ) (i : ℕ) → length bs ≤ i → 0 < length bs → lines_after (take i bs) (drop i bs) ≡ take i bs ∷ lines (drop i bs)
-unfolding lines_after
-lines_end [] i h p = absurd (omega arith)
-lines_end (b ∷ bs) i h p = rw (take_all i (b ∷ bs) h, drop_all i (b ∷ bs) h)
-
--- the word that a line without a gap in front begins with
-pub row_begun : (w : List ℕ) (ws : List (List ℕ)) → 0 < length w → begun w ws ≡ row w ws
-row_begun [] ws p = absurd (omega arith)
-row_begun (c ∷ cs) ws p = refl
-
-pub word_row :
-    (bs : List ℕ) (n : ℕ) → n ≤ length bs → (0 < length bs → 0 < n) → words bs ≡ begun (take n bs) (words (drop n bs)) →
-    words bs ≡ row (take n bs) (words (drop n bs))
-unfolding words_after
-word_row [] n h p e = rw (take_all {A = ℕ} n [] (omega arith)) refl
-word_row (b ∷ bs) n h p e =
-    e ∙ row_begun (take n (b ∷ bs)) _ (omega (arith, p (omega arith), length-take-le n (b ∷ bs) h))
-
-pub gap_past : (bs : List ℕ) (i : ℕ) → gap (get_or bs i 0) ≡ true → gap (get_or bs 0 0) ≡ false → 0 < i
-gap_past bs zero e f = absurd (both_ways _ f e)
-gap_past bs (suc i) e f = omega arith
+  pub no_word : (w : List ℕ) → w ≡ take (prefix_len letter from) from → eqb (length w) 0 ≡ true → words bs ≡ [] × words rest ≡ []
+  unfolding words_after
+  no_word [] f n =
+      let z : from ≡ [] = e ∙ starts bs (rw (← e) (sym f)) in
+      let r : rest ≡ [] = rw (g, z) refl in
+      (first_word [] f ∙ rw r refl, rw r refl)
+  no_word (c ∷ cs) f n = absurd (omega (arith, eqb-true (length (c ∷ cs)) 0 n))

@@ -15,6 +15,7 @@
 --   unfit t               the first number out of its limits: the change, the top speed, a place, the knob
 use Rattle.std.specs.Prelude.{ℕ, ◌+◌, Bool, cond, ◌&&◌, List, [], ◌∷◌, ◌++◌, Some, None, Ok, Err, Option, Result, nat_le}
 use Rattle.geometry.specs.Places.{within}
+use Rattle.script.specs.declared.script.Machine.{Machine}
 use Rattle.script.specs.declared.script.Order.{Order}
 use Rattle.script.specs.declared.script.Order.TheVariants.{To, Tick, Hold, Go, Knob, Where}
 use Rattle.script.specs.declared.fault.Expected.TheVariants as expected
@@ -29,8 +30,7 @@ pub record Unread : Type 0 where
   pub word : Misread
 
 pub record Told : Type 0 where
-  pub change : ℕ
-  pub top : ℕ
+  pub machine : Machine
   pub orders : List Order
 
 abbrev pub by_words : {A : Type 0} → List (List ℕ) → A → (List ℕ → List (List ℕ) → A) → A
@@ -47,12 +47,12 @@ orders_from n os (l ∷ ls) =
     by_words (words l) (orders_from (n + 1) os ls)
     (λ k ws. or_line (order_of k ws) n (λ o. orders_from (n + 1) (os ++ o ∷ []) ls))
 
-abbrev pub told_by : ℕ × ℕ → Result (List Order) Unread → Result Told Unread
-told_by m (Ok os) = Ok (record { change = m.0; top = m.1; orders = os })
+abbrev pub told_by : Machine → Result (List Order) Unread → Result Told Unread
+told_by m (Ok os) = Ok (record { machine = m; orders = os })
 told_by m (Err u) = Err u
 
 unfoldable pub script_from : ℕ → ℕ → List (List ℕ) → Result Told Unread
-script_from e n [] = Err (record { line = e; word = record { found = []; expects = expected.Machine } })
+script_from e n [] = Err (record { line = e; word = record { found = None; expects = expected.Machine } })
 script_from e n (l ∷ ls) =
     by_words (words l) (script_from e (n + 1) ls)
     (λ k ws. or_line (machine_of k ws) n (λ m. told_by m (orders_from (n + 1) [] ls)))
@@ -92,6 +92,6 @@ in_limits n = nat_le 1 n && nat_le n 1000000
 
 abbrev pub unfit : Told → Option Fault
 unfit t =
-    or_else (unless (in_limits t.change) (fault.Change t.change))
-    (or_else (unless (in_limits t.top) (fault.Top t.top))
+    or_else (unless (in_limits t.machine.change) (fault.Change t.machine.change))
+    (or_else (unless (in_limits t.machine.top) (fault.Top t.machine.top))
     (or_else (first far t.orders) (first beyond t.orders)))

@@ -1,11 +1,11 @@
 // Why a script is turned away, with what a sentence about it needs.
 ghost use Rattle.std.specs.Prelude.{◌≡◌};
-ghost use Rattle.script.specs.declared.fault.ScriptError.TheVariants.{Memory};
 ghost use Rattle.script.specs.Refusals.{refusal};
+ghost use Rattle.refusal.specs.declared.failed.Failed.TheVariants.{Refused};
+ghost use Rattle.script.specs.declared.fault.ScriptError.TheVariants.{Number};
 
 use geometry::Place;
-use refusal::{EventPart, LentPart, MachinePart, Refusal};
-use std::alloc::AllocFailed;
+use refusal::{EventPart, Failed, LentPart, MachinePart, Refusal};
 
 // What may stand where a word stands that can't.
 #[derive(Clone, Copy)]
@@ -29,38 +29,43 @@ pub enum Fault {
 // A word that can't stand where it stands: none where the line, or the script, ends too early.
 #[derive(Clone, Copy)]
 pub struct Wrong<'a> {
-    pub found: &'a [u8],
+    pub found: Option<&'a [u8]>,
     pub expected: Expected,
 }
 
-#[derive(Drop)]
+#[derive(Clone, Copy)]
 pub enum ScriptError<'a> {
     // The line, counted from 0.
     Text(u64, Wrong<'a>),
     Number(Fault),
-    Memory,
 }
 
 impl ScriptError<'_> {
-    // The refusal: none for want of memory.
-    pub fn refusal(&self) -> Option<Refusal>
+    pub fn refusal(&self) -> Refusal
         ensures { result ≡ refusal self.now }
     {
         match self {
-            ScriptError::Text(line, _) => Some(Refusal::Text(*line)),
-            ScriptError::Number(Fault::Change(_)) => Some(Refusal::Machine(MachinePart::Change)),
-            ScriptError::Number(Fault::Top(_)) => Some(Refusal::Machine(MachinePart::Top)),
-            ScriptError::Number(Fault::Far(_)) => Some(Refusal::Lent(LentPart::Place)),
-            ScriptError::Number(Fault::Knob(_)) => Some(Refusal::Event(EventPart::Number)),
-            ScriptError::Memory => None,
+            ScriptError::Text(line, _) => Refusal::Text(*line),
+            ScriptError::Number(Fault::Change(_)) => Refusal::Machine(MachinePart::Change),
+            ScriptError::Number(Fault::Top(_)) => Refusal::Machine(MachinePart::Top),
+            ScriptError::Number(Fault::Far(_)) => Refusal::Lent(LentPart::Place),
+            ScriptError::Number(Fault::Knob(_)) => Refusal::Event(EventPart::Number),
         }
     }
 }
 
-impl<T: Drop> From<AllocFailed<T>> for ScriptError<'_> {
-    ghost from_gives = { λ _ r. r ≡ Memory };
+impl<'a> From<ScriptError<'a>> for Failed<ScriptError<'a>> {
+    ghost from_gives = { λ e r. r ≡ Refused e };
 
-    fn from(_: AllocFailed<T>) -> Self {
-        ScriptError::Memory
+    fn from(error: ScriptError<'a>) -> Failed<ScriptError<'a>> {
+        Failed::Refused(error)
+    }
+}
+
+impl From<Fault> for Failed<ScriptError<'_>> {
+    ghost from_gives = { λ f r. r ≡ Refused (Number f) };
+
+    fn from(fault: Fault) -> Self {
+        Failed::Refused(ScriptError::Number(fault))
     }
 }

@@ -13,9 +13,9 @@
 mod fault;
 mod order;
 mod reader;
-mod scanner;
 mod script;
+mod words;
 
 pub use fault::{Expected, Fault, ScriptError, Wrong};
 pub use reader::read;
-pub use script::{Order, Script};
+pub use script::{Machine, Order, Script};

@@ -1,114 +1,92 @@
 // A script, line by line, and then its numbers.
-ghost use Rattle.std.specs.Prelude.{◌≡◌, ◌+◌, ◌^◌, ◌<◌, [], length};
-ghost use Rattle.script.specs.Words.{lines};
-ghost use Rattle.script.specs.Scripts.{reads, orders_from, first, far, beyond, in_limits, unfit};
-ghost use Rattle.script.specs.Refusals.{Answers, Begins, Goes, told};
+ghost use Rattle.std.specs.Prelude.{◌≡◌, ◌+◌, ◌^◌, ◌<◌, None, Some, MatchResult};
+ghost use Rattle.script.specs.Scripts.{reads, far, beyond, in_limits, unfit};
+ghost use Rattle.script.specs.Refusals.{Answers, Goes, Said, told};
 
 use crate::fault::{Expected, Fault, ScriptError, Wrong};
 use crate::order::{machine, order};
-use crate::scanner::{first_line, first_word};
-use crate::script::{Order, Script};
+use crate::script::{Machine, Order, Script};
+use crate::words::Words;
 use geometry::Place;
+use refusal::Failed;
 use std::alloc::Global;
 use word::line_feeds;
 
 // Reads a script whole, and checks its numbers.
-pub fn read(heap: Global, text: &[u8]) -> Result<Script, ScriptError<'_>>
+pub fn read(heap: Global, text: &[u8]) -> Result<Script, Failed<ScriptError<'_>>>
     ensures { Answers (reads text.now) result }
 {
-    let begun = machine_line(text)?;
-    let orders = orders(heap, begun.rest, begun.line)?;
-    let script = Script {
-        change: begun.change,
-        top: begun.top,
-        orders,
-    };
-    match unfit_number(&script) {
-        Some(fault) => Err(ScriptError::Number(fault)),
-        None => Ok(script),
-    }
+    let script = told(heap, text)?;
+    check(&script)?;
+    Ok(script)
 }
 
-// A machine, and the lines behind its own: the first of them is numbered `line`.
-#[derive(Clone, Copy)]
-pub struct Begun<'a> {
-    pub change: u64,
-    pub top: u64,
-    pub rest: &'a [u8],
-    pub line: u64,
-}
-
-// Reads the first line that isn't blank.
-fn machine_line(text: &[u8]) -> Result<Begun<'_>, ScriptError<'_>>
-    ensures { Begins text.now result }
+// What a script says, whatever its numbers.
+fn told(heap: Global, text: &[u8]) -> Result<Script, Failed<ScriptError<'_>>>
+    ensures { Goes (reads text.now) result }
 {
-    let mut rest = text;
-    let mut line: u64 = 0;
-    while !rest.is_empty() {
-        let (now, behind) = first_line(rest);
-        let (key, words) = first_word(now);
-        if !key.is_empty() {
-            return match machine(key, words) {
-                Ok((change, top)) => Ok(Begun {
-                    change,
-                    top,
-                    rest: behind,
-                    line: line + 1,
-                }),
-                Err(wrong) => Err(ScriptError::Text(line, wrong)),
-            };
-        }
-        rest = behind;
-        line += 1;
+    let mut script = None;
+    for (line, now) in text.split(|b| *b == b'\n').enumerate() {
+        script = with_line(heap, script, line as u64, now)?;
     }
-    Err(ScriptError::Text(
-        line_feeds(text),
-        Wrong {
-            found: rest,
+    script.ok_or_else(|| {
+        let wrong = Wrong {
+            found: None,
             expected: Expected::Machine,
-        },
-    ))
+        };
+        ScriptError::Text(line_feeds(text), wrong).into()
+    })
 }
 
-// Reads the orders of lines that are numbered from `from` on.
-fn orders<'a>(heap: Global, text: &'a [u8], from: u64) -> Result<Vec<Order>, ScriptError<'a>>
-    requires { from + length text.now < 2 ^ 64 }
-    ensures { Goes (orders_from from [] (lines text.now)) result }
+// A script with one line more: none as long as no line has had a word.
+#[tactic(auto, unfolding(crate::specs::Scripts::script_from, crate::specs::Scripts::orders_from))]
+fn with_line<'a>(
+    heap: Global,
+    script: Option<Script>,
+    line: u64,
+    now: &'a [u8],
+) -> Result<Option<Script>, Failed<ScriptError<'a>>>
+    ensures { Said line script now.now result }
 {
-    let mut orders = Vec::new(heap);
-    let mut rest = text;
-    let mut line = from;
-    while !rest.is_empty() {
-        let here = line;
-        let (now, behind) = first_line(rest);
-        let (key, words) = first_word(now);
-        rest = behind;
-        line += 1;
-        if key.is_empty() {
-            continue;
+    let mut words = Words::of(now);
+    let Some(key) = words.next() else {
+        return Ok(script);
+    };
+    match script {
+        None => {
+            let machine = machine(key, words).map_err(|wrong| ScriptError::Text(line, wrong))?;
+            Ok(Some(Script {
+                machine,
+                orders: Vec::new(heap),
+            }))
         }
-        match order(key, words) {
-            Ok(order) => orders.push(order)?,
-            Err(wrong) => return Err(ScriptError::Text(here, wrong)),
+        Some(mut script) => {
+            let order = order(key, words).map_err(|wrong| ScriptError::Text(line, wrong))?;
+            script.orders.push(order)?;
+            Ok(Some(script))
         }
     }
-    Ok(orders)
 }
 
-// The first number that is out of its limits.
-fn unfit_number(script: &Script) -> Option<Fault>
-    ensures { result ≡ unfit (told script.now) }
+// Whether every number is in its limits; or the first that is not.
+#[tactic(auto, using(crate::proofs::Firsts::first_drop, crate::proofs::Firsts::first_end, std::proofs::lemmas::Grind::common_steps))]
+fn check(script: &Script) -> Result<(), Fault>
+    ensures { MatchResult result (λ _. unfit (told script.now) ≡ None) (λ f. unfit (told script.now) ≡ Some f) }
 {
-    if !is_in_limits(script.change) {
-        return Some(Fault::Change(script.change));
+    let Machine { change, top } = script.machine;
+    if !is_in_limits(change) {
+        return Err(Fault::Change(change));
     }
-    if !is_in_limits(script.top) {
-        return Some(Fault::Top(script.top));
+    if !is_in_limits(top) {
+        return Err(Fault::Top(top));
     }
-    if let Some(fault) = first_far(script.orders.as_slice()) {
-        return Some(fault);
+    for order in &script.orders {
+        near(*order)?;
     }
-    first_beyond(script.orders.as_slice())
+    for order in &script.orders {
+        on_scale(*order)?;
+    }
+    Ok(())
 }
 
 fn is_in_limits(n: u64) -> bool
@@ -117,47 +95,22 @@ fn is_in_limits(n: u64) -> bool
     1 <= n && n <= 1_000_000
 }
 
-// The first target that is too far.
-fn first_far(orders: &[Order]) -> Option<Fault>
-    ensures { result ≡ first far orders.now }
-{
-    for order in orders {
-        if let Some(fault) = too_far(*order) {
-            return Some(fault);
-        }
-    }
-    None
-}
-
-fn too_far(order: Order) -> Option<Fault>
-    ensures { result ≡ far order }
-{
-    let Order::To(target) = order else {
-        return None;
-    };
-    if target.to.is_within(Place::REACH) {
-        return None;
-    }
-    Some(Fault::Far(target.to))
-}
-
-// The first turn of the knob beyond its scale.
-fn first_beyond(orders: &[Order]) -> Option<Fault>
-    ensures { result ≡ first beyond orders.now }
-{
-    for order in orders {
-        if let Some(fault) = beyond_scale(*order) {
-            return Some(fault);
-        }
-    }
-    None
-}
-
-fn beyond_scale(order: Order) -> Option<Fault>
-    ensures { result ≡ beyond order }
+// No target is too far.
+fn near(order: Order) -> Result<(), Fault>
+    ensures { MatchResult result (λ _. far order ≡ None) (λ f. far order ≡ Some f) }
 {
     match order {
-        Order::Knob(n) if n > 1_000 => Some(Fault::Knob(n)),
-        _ => None,
+        Order::To(target) if !target.to.is_within(Place::REACH) => Err(Fault::Far(target.to)),
+        _ => Ok(()),
+    }
+}
+
+// No turn of the knob is beyond its scale.
+fn on_scale(order: Order) -> Result<(), Fault>
+    ensures { MatchResult result (λ _. beyond order ≡ None) (λ f. beyond order ≡ Some f) }
+{
+    match order {
+        Order::Knob(n) if n > 1_000 => Err(Fault::Knob(n)),
+        _ => Ok(()),
     }
 }

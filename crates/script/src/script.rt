@@ -1,6 +1,13 @@
 // What a script says.
 use program::Target;
 
+// The machine of a script: its numbers as they are written, not yet checked.
+#[derive(Clone, Copy)]
+pub struct Machine {
+    pub change: u64,
+    pub top: u64,
+}
+
 #[derive(Clone, Copy)]
 pub enum Order {
     To(Target),
@@ -13,7 +20,6 @@ pub enum Order {
 
 #[derive(Drop)]
 pub struct Script {
-    pub change: u64,
-    pub top: u64,
+    pub machine: Machine,
     pub orders: Vec<Order>,
 }

@@ -1,0 +1,83 @@
+-- A script's lines are the pieces between its line feeds: one that is empty and last says nothing.
+use Rattle.std.proofs.Common.{◌≡◌, ℕ, ◌+◌, ◌<◌, Bool, false, eqb, List, [], ◌∷◌, ◌++◌, length, drop, Some, None, Err, Option, Result, All, ◌⊎◌, inl, inr, sym, refl, ap, ◌∙◌, arith, append_assoc, append-nil}
+use Rattle.std.specs.Iterator.{Yields}
+use Rattle.std.specs.List.{slice_split, enumerate_from}
+use Rattle.std.proofs.lemmas.Bool.{cases_Bool}
+use Rattle.std.proofs.lemmas.Iterator.{YieldsList}
+use Rattle.std.proofs.lemmas.Iterator.Consumers.{YieldsList-turn, YieldsList-end}
+use Rattle.std.proofs.lemmas.List.{drop_more, drop_all}
+use Rattle.std.proofs.lemmas.List.Elements.{All-push, All-nil}
+use Rattle.std.proofs.lemmas.List.FromFn.{length-enumerate_from, get_or-enumerate_from}
+use Rattle.std.proofs.lemmas.List.Splits.{slice_split_at, slice_split_none}
+use denote.Ref.{Bor}
+use Rattle.script.specs.declared.script.Order.{Order}
+use Rattle.script.specs.Words.{words_after, words, lines_after, lines}
+use Rattle.word.specs.Lines.{feeds}
+use Rattle.script.specs.Orders.{order_of, machine_of}
+use Rattle.script.specs.Scripts.{by_words, or_line, told_by, Told, Unread, orders_from, script_from, reads}
+use Rattle.script.specs.Refusals.{goes_on, Said, Goes}
+use Rattle.refusal.specs.declared.failed.Failed.{Failed}
+use Rattle.refusal.specs.declared.failed.Failed.TheVariants.{Refused, Memory}
+use Rattle.script.specs.declared.fault.ScriptError.{ScriptError}
+use Rattle.script.specs.declared.fault.ScriptError.TheVariants.{Text, Number}
+use Rattle.script.specs.declared.script.Script.{Script}
+
+abbrev pub feed : ℕ → Bool
+feed b = eqb b 10
+
+abbrev pub pieces : List ℕ → List (List ℕ)
+pieces bs = slice_split feed bs
+
+-- the line that has been begun has no line feed
+split_lines : (l bs : List ℕ) → All (λ b. feed b ≡ false) l → (pieces (l ++ bs) ≡ lines_after l bs) ⊎ (pieces (l ++ bs) ≡ lines_after l bs ++ [] ∷ [])
+unfolding lines_after
+split_lines [] [] h = inr refl
+split_lines (c ∷ cs) [] h = inl (ap pieces (append-nil (c ∷ cs)) ∙ slice_split_none feed (c ∷ cs) h)
+split_lines l (b ∷ bs) h =
+    let more : (l ++ b ∷ []) ++ bs ≡ l ++ b ∷ bs = append_assoc l (b ∷ []) bs in
+    elim (cases_Bool (feed b)) [
+      | inl e ↦
+          rw (e, slice_split_at feed l b bs h e) (elim (split_lines [] bs (All-nil _)) [
+            | inl f ↦ inl (ap (λ ls. l ∷ ls) f)
+            | inr f ↦ inr (ap (λ ls. l ∷ ls) f)
+          ])
+      | inr e ↦ rw (e, ← more) (split_lines (l ++ b ∷ []) bs (All-push (λ x. feed x ≡ false) l b h e))
+    ]
+
+-- a blank line at the end says nothing
+orders_end : (n : ℕ) (os : List Order) (ls : List (List ℕ)) → orders_from n os (ls ++ [] ∷ []) ≡ orders_from n os ls
+unfolding orders_from words_after
+orders_end n os [] = refl
+orders_end n os (l ∷ ls) = λ i. by_words (words l) (orders_end (n + 1) os ls i) (λ k ws. or_line (order_of k ws) n (λ o. orders_end (n + 1) (os ++ o ∷ []) ls i))
+
+script_end : (e n : ℕ) (ls : List (List ℕ)) → script_from e n (ls ++ [] ∷ []) ≡ script_from e n ls
+unfolding script_from words_after
+script_end e n [] = refl
+script_end e n (l ∷ ls) = λ i. by_words (words l) (script_end e (n + 1) ls i) (λ k ws. or_line (machine_of k ws) n (λ m. told_by m (orders_end (n + 1) [] ls i)))
+
+pub reads_pieces : (bs : List ℕ) → goes_on (feeds bs) 0 None (pieces bs) ≡ reads bs
+reads_pieces bs = elim (split_lines [] bs (All-nil _)) [
+  | inl e ↦ ap (script_from (feeds bs) 0) e
+  | inr e ↦ ap (script_from (feeds bs) 0) e ∙ script_end (feeds bs) 0 (lines bs)
+]
+
+-- what a line that can't be read makes of the script
+pub refused : (f : Failed ScriptError) (e n : ℕ) (s : Option Script) (l : List ℕ) (ls : List (List ℕ)) (r : Result Told Unread) → goes_on e n s (l ∷ ls) ≡ r → Said n s l (Err f) → Goes r (Err f)
+refused (Refused (Text line wrong)) e n s l ls r g h = sym g ∙ h e ls
+refused (Refused (Number fault)) e n s l ls r g h = absurd h
+refused Memory e n s l ls r g h = tt
+
+-- one turn of a loop over numbered pieces, and its end
+module _ {S : Type 0} {steps : S → Option (ℕ × Bor (List ℕ)) → S → Type 0} {s : S} (xs : List (ℕ × Bor (List ℕ))) {t : S} (so_far : Yields steps s xs t)
+    (ps : List (List ℕ)) (road : YieldsList steps (λ p. (p.0, p.1.now)) s (enumerate_from 0 ps)) (r : Option (ℕ × Bor (List ℕ))) (u : S) where
+  pub turn : (x : ℕ × Bor (List ℕ)) → r ≡ Some x → steps t r u → (x.0 ≡ length xs) × (drop (length xs) ps ≡ x.1.now ∷ drop (length xs + 1) ps)
+  turn x e h =
+      let a = YieldsList-turn road xs t so_far r u x e h in
+      let n : length xs < length ps = omega (arith, a.0, length-enumerate_from 0 ps) in
+      let b = a.1 ∙ get_or-enumerate_from 0 ps (length xs) (x.0, x.1.now) n in
+      (ap (λ (p : ℕ × List ℕ). p.0) b ∙ omega arith, drop_more ps (length xs) x.1.now n ∙ ap (λ (p : ℕ × List ℕ). p.1 ∷ drop (length xs + 1) ps) (sym b))
+
+  pub over : r ≡ None → steps t r u → drop (length xs) ps ≡ []
+  over e h =
+      let a = YieldsList-end road xs t so_far r u e h in
+      drop_all (length xs) ps (omega (arith, a.1, length-enumerate_from 0 ps))
