@@ -85,10 +85,10 @@ module _ {T : Type 0} {lent : Lent} {n : ℕ} {f : Frame} {s : Teller T} {width 
     names = ap (names_below n) e ∙ named
 
     means : meant lent.nodes.now n ≡ program (meant lent.nodes.now) v
-    means = meant_step lent.nodes.now n (named) ∙ ap (program (meant lent.nodes.now)) (sym e)
+    means = meant_step lent.nodes.now n named ∙ ap (program (meant lent.nodes.now)) (sym e)
 
     counts_as : count (meant lent.nodes.now n) ≡ counted (λ k. count (meant lent.nodes.now k)) v
-    counts_as = count_meant lent.nodes.now n (named) ∙ ap (counted (λ k. count (meant lent.nodes.now k))) (sym e)
+    counts_as = count_meant lent.nodes.now n named ∙ ap (counted (λ k. count (meant lent.nodes.now k))) (sym e)
 
     smalls : Small v
     smalls = subst Small (sym e) (small_in lent.nodes.now n lent.sound)

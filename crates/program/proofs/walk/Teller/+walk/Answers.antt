@@ -95,7 +95,8 @@ returns-in_err-walk-in-Next-clause-walked g t c =
 
 pub walk-requires-in-Next : goal.walk-requires-in-Next
 walk-requires-in-Next g t c κs within =
-    (search (rules, step.next_second c.requires c.in-Next.ensures), (within, step.second_ready c.requires c.in-Next.ensures g.T.Slot.slots g.met.T.Slot.sized c.walk.new.self c.in_ok-walk-in-Next.ensures.walked))
+    let ready = step.second_ready c.requires c.in-Next.ensures g.T.Slot.slots g.met.T.Slot.sized c.walk.new.self c.in_ok-walk-in-Next.ensures.walked in
+    (search (rules, step.next_second c.requires c.in-Next.ensures), (within, ready))
 
 pub returns-in_ok-walk-in-Next-clause-walked : goal.returns-in_ok-walk-in-Next-clause-walked
 returns-in_ok-walk-in-Next-clause-walked g t c =
@@ -107,7 +108,8 @@ returns-in_ok-walk-in-Next-clause-walked g t c =
 
 pub walk-requires-in-loop : goal.walk-requires-in-loop
 walk-requires-in-loop g t c κs within =
-    (search (rules, step.times_body c.requires c.in-Times.ensures), (within, step.turn_ready c.requires c.in-Times.ensures g.T.Slot.slots g.met.T.Slot.sized c.loop.counter c.loop.self c.loop-test.true c.loop.invariant.walked))
+    let ready = step.turn_ready c.requires c.in-Times.ensures g.T.Slot.slots g.met.T.Slot.sized c.loop.counter c.loop.self c.loop-test.true c.loop.invariant.walked in
+    (search (rules, step.times_body c.requires c.in-Times.ensures), (within, ready))
 
 pub returns-in_err-walk-in-Times-clause-walked : goal.returns-in_err-walk-in-Times-clause-walked
 returns-in_err-walk-in-Times-clause-walked g t c =
