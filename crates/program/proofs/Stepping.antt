@@ -1,5 +1,5 @@
 -- What each kind of node owes the evaluator: that a walk over it may go on to the nodes it names, and what it says.
-use Rattle.std.proofs.Common.{◌≡◌, ℕ, suc, ◌+◌, ◌-◌, ◌*◌, ◌^◌, ◌<◌, ◌≤◌, Bool, true, false, cond, eqb, leb, ltb, List, length, ℤ, pos, negsuc, nat_abs, sym, refl, ap, ◌∙◌, subst, arith}
+use Rattle.std.proofs.Common.{◌≡◌, ℕ, suc, ◌+◌, ◌-◌, ◌*◌, ◌<◌, ◌≤◌, Bool, true, false, cond, eqb, leb, ltb, List, length, ℤ, pos, negsuc, nat_abs, sym, refl, ap, ◌∙◌, subst, arith}
 use Rattle.std.proofs.lemmas.Nat.{mul-le}
 use Rattle.std.proofs.lemmas.Bool.{ltb-true, and_parts}
 use Rattle.geometry.proofs.Acts.{frames_act, way_within, moved_within}
@@ -85,10 +85,10 @@ module _ {T : Type 0} {lent : Lent} {n : ℕ} {f : Frame} {s : Teller T} {width 
     names = ap (names_below n) e ∙ named
 
     means : meant lent.nodes.now n ≡ program (meant lent.nodes.now) v
-    means = meant_step lent.nodes.now n (named) ∙ ap (program (meant lent.nodes.now)) (sym e)
+    means = meant_step lent.nodes.now n named ∙ ap (program (meant lent.nodes.now)) (sym e)
 
     counts_as : count (meant lent.nodes.now n) ≡ counted (λ k. count (meant lent.nodes.now k)) v
-    counts_as = count_meant lent.nodes.now n (named) ∙ ap (counted (λ k. count (meant lent.nodes.now k))) (sym e)
+    counts_as = count_meant lent.nodes.now n named ∙ ap (counted (λ k. count (meant lent.nodes.now k))) (sym e)
 
     smalls : Small v
     smalls = subst Small (sym e) (small_in lent.nodes.now n lent.sound)
@@ -116,43 +116,36 @@ module _ {T : Type 0} {lent : Lent} {n : ℕ} {f : Frame} {s : Teller T} {width 
   nearer : (k : ℕ) → k < n → Within (1000000 * (1024 - k)) f.origin
   nearer k l = within_more _ (omega arith) h.near
 
-  -- one target
-  pub single_roomy : (v : Node) (e : v ≡ node_in lent.nodes.now n) → counted (λ k. count (meant lent.nodes.now k)) v ≡ 1 → width * (s.said + 1) ≤ length s.room.now
-  single_roomy v e one = rw (counts_as v e ∙ one) at h.roomy
-
-  pub single_fits : (v : Node) (e : v ≡ node_in lent.nodes.now n) → counted (λ k. count (meant lent.nodes.now k)) v ≡ 1 → s.said + 1 < 2 ^ 64
-  single_fits v e one = omega (arith, h.fits, counts_as v e ∙ one)
-
-  module _ (p : Place) (fast : ℕ) (e : To p fast ≡ node_in lent.nodes.now n) where
+  module _ {p : Place} {fast : ℕ} (e : To p fast ≡ node_in lent.nodes.now n) where
     pub to_within : Within 4000000000 p
     to_within = within_more 4000000000 (omega arith) (smalls (To p fast) e).0
 
     pub to_slow : fast ≤ 1000000
     to_slow = (smalls (To p fast) e).1
 
-    pub says_to : (q : Place) → q ≡ put f p → went_in f (meant lent.nodes.now n) s.at ≡ going (record { to = q; fast = fast })
-    says_to q is =
+    pub says_to : {q : Place} → q ≡ put f p → went_in f (meant lent.nodes.now n) s.at ≡ going (record { to = q; fast = fast })
+    says_to is =
         says_as (To p fast) e s.at ∙ in_to f p fast s.at ∙ ap (λ (z : Place). going (record { to = z; fast = fast })) (sym is)
 
-  module _ (d : Place) (fast : ℕ) (e : By d fast ≡ node_in lent.nodes.now n) where
+  module _ {d : Place} {fast : ℕ} (e : By d fast ≡ node_in lent.nodes.now n) where
     pub by_within : Within 4000000000 d
     by_within = within_more 4000000000 (omega arith) (smalls (By d fast) e).0
 
     pub by_slow : fast ≤ 1000000
     by_slow = (smalls (By d fast) e).1
 
-    pub way_is_within : (w : Place) → w ≡ way f d → Within 4000000000 w
-    way_is_within w is = subst (Within 4000000000) (sym is) (way_within 4000000000 f d by_within)
+    pub way_is_within : {w : Place} → w ≡ way f d → Within 4000000000 w
+    way_is_within is = subst (Within 4000000000) (sym is) (way_within 4000000000 f d by_within)
 
-    pub says_by : (q w : Place) → q ≡ moved w s.at → w ≡ way f d → went_in f (meant lent.nodes.now n) s.at ≡ going (record { to = q; fast = fast })
-    says_by q w is so =
+    pub says_by : {q w : Place} → q ≡ moved w s.at → w ≡ way f d → went_in f (meant lent.nodes.now n) s.at ≡ going (record { to = q; fast = fast })
+    says_by is so =
         says_as (By d fast) e s.at ∙ in_by f d fast s.at
         ∙ ap (λ (z : Place). going (record { to = z; fast = fast })) (sym (is ∙ ap (λ (z : Place). moved z s.at) so))
 
   pub says_nothing : Nothing ≡ node_in lent.nodes.now n → went_in f (meant lent.nodes.now n) s.at ≡ stay s.at
   says_nothing e = says_as Nothing e s.at ∙ in_nothing f s.at
 
-  module _ (a b : ℕ) (e : Next a b ≡ node_in lent.nodes.now n) where
+  module _ {a b : ℕ} (e : Next a b ≡ node_in lent.nodes.now n) where
     pub next_first : a < n
     next_first = ltb-true a n (and_parts (ltb a n) (ltb b n) (names (Next a b) e)).0
 
@@ -172,7 +165,7 @@ module _ {T : Type 0} {lent : Lent} {n : ℕ} {f : Frame} {s : Teller T} {width 
     pub says_next : went_in f (meant lent.nodes.now n) s.at ≡ followed (went_in f (meant lent.nodes.now a)) (went_in f (meant lent.nodes.now b)) s.at
     says_next = says_as (Next a b) e s.at ∙ in_next f (meant lent.nodes.now a) (meant lent.nodes.now b) s.at
 
-  module _ (m k : ℕ) (e : Times m k ≡ node_in lent.nodes.now n) where
+  module _ {m k : ℕ} (e : Times m k ≡ node_in lent.nodes.now n) where
     pub times_body : k < n
     times_body = ltb-true k n (names (Times m k) e)
 
@@ -189,53 +182,53 @@ module _ {T : Type 0} {lent : Lent} {n : ℕ} {f : Frame} {s : Teller T} {width 
     pub says_times : went_in f (meant lent.nodes.now n) s.at ≡ again m (went_in f (meant lent.nodes.now k)) s.at
     says_times = says_as (Times m k) e s.at ∙ in_times f m (meant lent.nodes.now k) s.at
 
-  module _ (d : Place) (k : ℕ) (g : Frame) (e : At d k ≡ node_in lent.nodes.now n) where
+  module _ {d : Place} {k : ℕ} (e : At d k ≡ node_in lent.nodes.now n) where
     pub at_within : Within 4000000000 d
     at_within = within_more 4000000000 (omega arith) (smalls (At d k) e)
 
     pub at_body : k < n
     at_body = ltb-true k n (names (At d k) e)
 
-    pub at_ready : g ≡ in_moved f d → Ready lent k g s width
-    at_ready is =
+    pub at_ready : {g : Frame} → g ≡ in_moved f d → Ready lent k g s width
+    at_ready {g} is =
         let near : Within (1000000 * (1024 - k)) (put f d) =
         within_more _ (omega (arith, at_body, h.here, lent.sound.few))
         (moved_within (1000000 * (1024 - n)) 1000000 f.origin (way f d) h.near (way_within 1000000 f d (smalls (At d k) e))) in
         child k g s at_body (subst (λ (z : Frame). Within (1000000 * (1024 - k)) z.origin) (sym is) near) h.within refl (omega (arith, counts_as (At d k) e))
 
-    pub says_at : g ≡ in_moved f d → went_in f (meant lent.nodes.now n) s.at ≡ went_in g (meant lent.nodes.now k) s.at
-    says_at is =
+    pub says_at : {g : Frame} → g ≡ in_moved f d → went_in f (meant lent.nodes.now n) s.at ≡ went_in g (meant lent.nodes.now k) s.at
+    says_at {g} is =
         says_as (At d k) e s.at ∙ in_at f (in_moved f d) d (meant lent.nodes.now k) s.at (frames_act.moves f d)
         ∙ ap (λ (z : Frame). went_in z (meant lent.nodes.now k) s.at) (sym is)
 
   same_origin_near : (k : ℕ) (g z : Frame) → k < n → g ≡ z → z.origin ≡ f.origin → Within (1000000 * (1024 - k)) g.origin
   same_origin_near k g z l is same = subst (Within (1000000 * (1024 - k))) (sym (ap (λ (y : Frame). y.origin) is ∙ same)) (nearer k l)
 
-  module _ (k : ℕ) (g : Frame) (e : Turn k ≡ node_in lent.nodes.now n) where
+  module _ {k : ℕ} (e : Turn k ≡ node_in lent.nodes.now n) where
     pub turn_body : k < n
     turn_body = ltb-true k n (names (Turn k) e)
 
-    pub turned_ready : g ≡ in_turned f → Ready lent k g s width
-    turned_ready is = child k g s turn_body (same_origin_near k g (in_turned f) turn_body is refl) h.within refl (omega (arith, counts_as (Turn k) e))
+    pub turned_ready : {g : Frame} → g ≡ in_turned f → Ready lent k g s width
+    turned_ready {g} is = child k g s turn_body (same_origin_near k g (in_turned f) turn_body is refl) h.within refl (omega (arith, counts_as (Turn k) e))
 
-    pub says_turn : g ≡ in_turned f → went_in f (meant lent.nodes.now n) s.at ≡ went_in g (meant lent.nodes.now k) s.at
-    says_turn is =
+    pub says_turn : {g : Frame} → g ≡ in_turned f → went_in f (meant lent.nodes.now n) s.at ≡ went_in g (meant lent.nodes.now k) s.at
+    says_turn {g} is =
         says_as (Turn k) e s.at ∙ in_turn f (in_turned f) (meant lent.nodes.now k) s.at (frames_act.turns f)
         ∙ ap (λ (z : Frame). went_in z (meant lent.nodes.now k) s.at) (sym is)
 
-  module _ (k : ℕ) (g : Frame) (e : Mirror k ≡ node_in lent.nodes.now n) where
+  module _ {k : ℕ} (e : Mirror k ≡ node_in lent.nodes.now n) where
     pub mirror_body : k < n
     mirror_body = ltb-true k n (names (Mirror k) e)
 
-    pub mirrored_ready : g ≡ in_mirrored f → Ready lent k g s width
-    mirrored_ready is = child k g s mirror_body (same_origin_near k g (in_mirrored f) mirror_body is refl) h.within refl (omega (arith, counts_as (Mirror k) e))
+    pub mirrored_ready : {g : Frame} → g ≡ in_mirrored f → Ready lent k g s width
+    mirrored_ready {g} is = child k g s mirror_body (same_origin_near k g (in_mirrored f) mirror_body is refl) h.within refl (omega (arith, counts_as (Mirror k) e))
 
-    pub says_mirror : g ≡ in_mirrored f → went_in f (meant lent.nodes.now n) s.at ≡ went_in g (meant lent.nodes.now k) s.at
-    says_mirror is =
+    pub says_mirror : {g : Frame} → g ≡ in_mirrored f → went_in f (meant lent.nodes.now n) s.at ≡ went_in g (meant lent.nodes.now k) s.at
+    says_mirror {g} is =
         says_as (Mirror k) e s.at ∙ in_mirror f (in_mirrored f) (meant lent.nodes.now k) s.at (frames_act.mirrors f)
         ∙ ap (λ (z : Frame). went_in z (meant lent.nodes.now k) s.at) (sym is)
 
-  module _ (k : ℕ) (e : Sub k ≡ node_in lent.nodes.now n) where
+  module _ {k : ℕ} (e : Sub k ≡ node_in lent.nodes.now n) where
     pub sub_body : k < n
     sub_body = ltb-true k n (names (Sub k) e)
 

@@ -35,6 +35,9 @@ some_or : (o p : Option ℕ) (k : ℕ) → o ≡ Some k → option_or o p ≡ So
 some_or None p k h = let z : ◌≡◌ {A = ℕ} 0 1 = cc in absurd (omega arith)
 some_or (Some j) p k h = h
 
+pub stops_as : (n : ℕ) {w v : Went} {o : Option ℕ} → w ≡ v → first_in reached n v.says ≡ o → first_in reached n w.says ≡ o
+stops_as n e h = ap (λ (w : Went). first_in reached n w.says) e ∙ h
+
 -- one walk, and then another
 abbrev pub joint : Went → Went → Went
 joint w v = record { says = w.says ++ v.says; ends = v.ends }

@@ -1,4 +1,4 @@
-// How many targets each node says, in one pass over the nodes. Counts stop at 2^64 - 1, more than any room holds.
+// How many targets each node says. Counts stop at 2^64 - 1, more than any room holds.
 ghost use Rattle.std.specs.Prelude.{◌≡◌, ◌-◌, ◌≤◌, ◌^◌, min, true, slice_index};
 ghost use Rattle.program.specs.Answers.{names_below};
 ghost use Rattle.program.specs.Nodes.{nodes as node_count};
@@ -22,7 +22,7 @@ fn count(node: Node, counts: &[u64; MOST_NODES]) -> u64
     }
 }
 
-// Refuses the first node that has no kind, or names itself or a later one.
+// All counts, in one pass over the nodes. The first node that has no kind, or names itself or a later one, is refused.
 pub fn count_all(nodes: &[i64]) -> Result<[u64; MOST_NODES], Refusal>
     requires { node_count nodes.now ≤ 1024 }
     ensures { CountsOr nodes.now result }

@@ -96,7 +96,7 @@ impl<'a> Program<'a> {
         self.counts[n]
     }
 
-    // The node n.
+    // The node n, inlined as its decoding is.
     #[inline]
     pub fn node(&self, n: usize) -> Node
         requires { n < node_count self.now.nodes.now }

@@ -19,11 +19,8 @@ mod tests {
     fn doubling(kind: i64) -> [i64; 4096] {
         let mut nodes = [0; 4096];
         nodes[0] = kind;
-        for n in 1..1024 {
-            let before = n as i64 - 1;
-            nodes[4 * n] = 3;
-            nodes[4 * n + 1] = before;
-            nodes[4 * n + 2] = before;
+        for (before, node) in nodes[4..].as_chunks_mut::<4>().0.iter_mut().enumerate() {
+            *node = [3, before as i64, before as i64, 0];
         }
         nodes
     }
@@ -31,10 +28,8 @@ mod tests {
     // Ten nested repetitions of nothing, a million times each.
     fn repeating() -> [i64; 44] {
         let mut nodes = [0; 44];
-        for n in 1..11 {
-            nodes[4 * n] = 4;
-            nodes[4 * n + 1] = 1_000_000;
-            nodes[4 * n + 2] = n as i64 - 1;
+        for (before, node) in nodes[4..].as_chunks_mut::<4>().0.iter_mut().enumerate() {
+            *node = [4, 1_000_000, before as i64, 0];
         }
         nodes
     }
@@ -153,9 +148,7 @@ mod tests {
 
     #[test]
     fn loads(rt: HostRuntime) -> Result<(), Fail> {
-        let Ok(targets) = load(rt.alloc(), &TURN_MIRROR, 2) else {
-            return Err(Fail::new("refused"));
-        };
+        let targets = load(rt.alloc(), &TURN_MIRROR, 2)?;
         assert!(rt; targets.len() == 2);
         assert_eq!(rt; targets[1].to.y, 1);
         assert!(rt; load(rt.alloc(), &TURN_MIRROR, 1).is_err());

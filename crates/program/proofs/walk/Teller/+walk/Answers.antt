@@ -1,9 +1,8 @@
-use Rattle.std.proofs.Common.{◌≡◌, ℕ, ◌<◌, Ok, sym, refl, ap, ◌∙◌, arith, rules}
+use Rattle.std.proofs.Common.{◌≡◌, ℕ, Ok, refl, ◌∙◌, arith, rules}
 use Rattle.std.proofs.lemmas.Result.{err_from_is_err_and}
 use Rattle.program.proofs.Stepping as step
-use Rattle.program.proofs.Walking.{whole_stay, walked_as, walked_stops, walked_followed, turn_more, turn_stops}
-use Rattle.program.specs.Answers.{first_in, reached}
-use Rattle.program.specs.Programs.{Went, again}
+use Rattle.program.proofs.Walking.{whole_stay, stops_as, walked_stops, walked_followed, turn_more, turn_stops}
+use Rattle.program.specs.Programs.{again}
 use Rattle.program.specs.Sound.{meant}
 use Rattle.program.specs.Walks.{went_in}
 use Rattle.program.proofs.walk.Teller.+walk.Goals as goal
@@ -13,25 +12,24 @@ returns-then-count-eq0-clause-walked g t c =
     whole_stay g.T.Slot.slots g.T.Slot.width c.args.self.now _ (step.leaves c.requires (omega (arith, c.count.ensures, c.if-count-eq0.true))) c.requires.within
 
 pub place-requires : goal.place-requires
-place-requires g t c = (step.frame_within c.requires, step.to_within c.requires c.in-To.p c.in-To.fast c.in-To.ensures)
+place-requires g t c = (step.frame_within c.requires, step.to_within c.requires c.in-To.ensures)
 
 pub put-requires-clause-slow : goal.put-requires-clause-slow
-put-requires-clause-slow g t c = step.to_slow c.requires c.in-To.p c.in-To.fast c.in-To.ensures
+put-requires-clause-slow g t c = step.to_slow c.requires c.in-To.ensures
 
 pub way-requires : goal.way-requires
-way-requires g t c = step.by_within c.requires c.in-By.d c.in-By.fast c.in-By.ensures
+way-requires g t c = step.by_within c.requires c.in-By.ensures
 
 pub moved-requires : goal.moved-requires
 moved-requires g t c =
-    (step.state_within c.requires, step.way_is_within c.requires c.in-By.d c.in-By.fast c.in-By.ensures c.way.result c.way.ensures)
+    (step.state_within c.requires, step.way_is_within c.requires c.in-By.ensures c.way.ensures)
 
 pub put-requires-in-By-clause-slow : goal.put-requires-in-By-clause-slow
-put-requires-in-By-clause-slow g t c = step.by_slow c.requires c.in-By.d c.in-By.fast c.in-By.ensures
+put-requires-in-By-clause-slow g t c = step.by_slow c.requires c.in-By.ensures
 
 pub walk-requires : goal.walk-requires
 walk-requires g t c κs within =
-    let less : c.in-Next.a < c.args.n = step.next_first c.requires c.in-Next.a c.in-Next.b c.in-Next.ensures in
-    (search rules, (within, step.first_ready c.requires c.in-Next.a c.in-Next.b c.in-Next.ensures))
+    (search (rules, step.next_first c.requires c.in-Next.ensures), (within, step.first_ready c.requires c.in-Next.ensures))
 
 pub loop-init : goal.loop-init
 unfolding again
@@ -41,27 +39,23 @@ loop-init g t c = record {
 }
 
 pub at-requires : goal.at-requires
-at-requires g t c = (step.frame_within c.requires, step.at_within c.requires c.in-At.p c.in-At.body c.args.frame c.in-At.ensures)
+at-requires g t c = (step.frame_within c.requires, step.at_within c.requires c.in-At.ensures)
 
 pub walk-requires-in-At : goal.walk-requires-in-At
 walk-requires-in-At g t c κs within =
-    let less : c.in-At.body < c.args.n = step.at_body c.requires c.in-At.p c.in-At.body c.args.frame c.in-At.ensures in
-    (search rules, (within, step.at_ready c.requires c.in-At.p c.in-At.body c.at.result c.in-At.ensures c.at.ensures))
+    (search (rules, step.at_body c.requires c.in-At.ensures), (within, step.at_ready c.requires c.in-At.ensures c.at.ensures))
 
 pub walk-requires-in-Turn : goal.walk-requires-in-Turn
 walk-requires-in-Turn g t c κs within =
-    let less : c.in-Turn.body < c.args.n = step.turn_body c.requires c.in-Turn.body c.args.frame c.in-Turn.ensures in
-    (search rules, (within, step.turned_ready c.requires c.in-Turn.body c.turn.result c.in-Turn.ensures c.turn.ensures))
+    (search (rules, step.turn_body c.requires c.in-Turn.ensures), (within, step.turned_ready c.requires c.in-Turn.ensures c.turn.ensures))
 
 pub walk-requires-in-Mirror : goal.walk-requires-in-Mirror
 walk-requires-in-Mirror g t c κs within =
-    let less : c.in-Mirror.body < c.args.n = step.mirror_body c.requires c.in-Mirror.body c.args.frame c.in-Mirror.ensures in
-    (search rules, (within, step.mirrored_ready c.requires c.in-Mirror.body c.mirror.result c.in-Mirror.ensures c.mirror.ensures))
+    (search (rules, step.mirror_body c.requires c.in-Mirror.ensures), (within, step.mirrored_ready c.requires c.in-Mirror.ensures c.mirror.ensures))
 
 pub walk-requires-in-Sub : goal.walk-requires-in-Sub
 walk-requires-in-Sub g t c κs within =
-    let less : c.in-Sub.body < c.args.n = step.sub_body c.requires c.in-Sub.body c.in-Sub.ensures in
-    (search rules, (within, step.sub_ready c.requires c.in-Sub.body c.in-Sub.ensures))
+    (search (rules, step.sub_body c.requires c.in-Sub.ensures), (within, step.sub_ready c.requires c.in-Sub.ensures))
 
 pub returns-in-Nothing-clause-walked : goal.returns-in-Nothing-clause-walked
 returns-in-Nothing-clause-walked g t c =
@@ -69,99 +63,69 @@ returns-in-Nothing-clause-walked g t c =
 
 pub returns-in-To-clause-walked : goal.returns-in-To-clause-walked
 returns-in-To-clause-walked g t c =
-    walked_as g.T.Slot.slots g.T.Slot.width c.args.self.now _ _ c.put.result c.put.new.self
-    (step.says_to c.requires c.in-To.p c.in-To.fast c.in-To.ensures c.place.result c.place.ensures) c.put.ensures.walked
+    rw (step.says_to c.requires c.in-To.ensures c.place.ensures) c.put.ensures.walked
 
 pub returns-in-By-clause-walked : goal.returns-in-By-clause-walked
 returns-in-By-clause-walked g t c =
-    walked_as g.T.Slot.slots g.T.Slot.width c.args.self.now _ _ c.put-in-By.result c.put-in-By.new.self
-    (step.says_by c.requires c.in-By.d c.in-By.fast c.in-By.ensures c.moved.result c.way.result c.moved.ensures c.way.ensures) c.put-in-By.ensures.walked
+    rw (step.says_by c.requires c.in-By.ensures c.moved.ensures c.way.ensures) c.put-in-By.ensures.walked
 
 pub returns-in-At-clause-walked : goal.returns-in-At-clause-walked
 returns-in-At-clause-walked g t c =
-    walked_as g.T.Slot.slots g.T.Slot.width c.args.self.now _ _ c.walk-in-At.result c.walk-in-At.new.self
-    (step.says_at c.requires c.in-At.p c.in-At.body c.at.result c.in-At.ensures c.at.ensures) c.walk-in-At.ensures.walked
+    rw (step.says_at c.requires c.in-At.ensures c.at.ensures) c.walk-in-At.ensures.walked
 
 pub returns-in-Turn-clause-walked : goal.returns-in-Turn-clause-walked
 returns-in-Turn-clause-walked g t c =
-    walked_as g.T.Slot.slots g.T.Slot.width c.args.self.now _ _ c.walk-in-Turn.result c.walk-in-Turn.new.self
-    (step.says_turn c.requires c.in-Turn.body c.turn.result c.in-Turn.ensures c.turn.ensures) c.walk-in-Turn.ensures.walked
+    rw (step.says_turn c.requires c.in-Turn.ensures c.turn.ensures) c.walk-in-Turn.ensures.walked
 
 pub returns-in-Mirror-clause-walked : goal.returns-in-Mirror-clause-walked
 returns-in-Mirror-clause-walked g t c =
-    walked_as g.T.Slot.slots g.T.Slot.width c.args.self.now _ _ c.walk-in-Mirror.result c.walk-in-Mirror.new.self
-    (step.says_mirror c.requires c.in-Mirror.body c.mirror.result c.in-Mirror.ensures c.mirror.ensures) c.walk-in-Mirror.ensures.walked
+    rw (step.says_mirror c.requires c.in-Mirror.ensures c.mirror.ensures) c.walk-in-Mirror.ensures.walked
 
 pub returns-in-Sub-clause-walked : goal.returns-in-Sub-clause-walked
 returns-in-Sub-clause-walked g t c =
-    walked_as g.T.Slot.slots g.T.Slot.width c.args.self.now _ _ c.walk-in-Sub.result c.walk-in-Sub.new.self
-    (step.says_sub c.requires c.in-Sub.body c.in-Sub.ensures) c.walk-in-Sub.ensures.walked
+    rw (step.says_sub c.requires c.in-Sub.ensures) c.walk-in-Sub.ensures.walked
 
 pub returns-in_err-walk-in-Next-clause-walked : goal.returns-in_err-walk-in-Next-clause-walked
 returns-in_err-walk-in-Next-clause-walked g t c =
-    let xs = c.args.program.now.nodes.now in
+    let said = λ (n : ℕ). went_in c.args.frame (meant c.args.program.now.nodes.now n) in
+    let first = said c.in-Next.a c.args.self.now.at in
     rw (err_from_is_err_and c.from_residual.result c.from_residual.ensures.1).1
-    (ap (λ (w : Went). first_in reached c.args.self.now.said w.says) (step.says_next c.requires c.in-Next.a c.in-Next.b c.in-Next.ensures)
-    ∙ walked_stops g.T.Slot.slots g.T.Slot.width c.args.self.now c.walk.new.self
-    (went_in c.args.frame (meant xs c.in-Next.a) c.args.self.now.at)
-    (went_in c.args.frame (meant xs c.in-Next.b) (went_in c.args.frame (meant xs c.in-Next.a) c.args.self.now.at).ends)
-    c.in_err-walk-in-Next.ensures.walked)
+    (stops_as c.args.self.now.said (step.says_next c.requires c.in-Next.ensures)
+    (walked_stops g.T.Slot.slots g.T.Slot.width c.args.self.now c.walk.new.self first (said c.in-Next.b first.ends) c.in_err-walk-in-Next.ensures.walked))
 
 pub walk-requires-in-Next : goal.walk-requires-in-Next
 walk-requires-in-Next g t c κs within =
-    let less : c.in-Next.b < c.args.n = step.next_second c.requires c.in-Next.a c.in-Next.b c.in-Next.ensures in (
-      search rules,
-      (
-        within,
-        step.second_ready c.requires c.in-Next.a c.in-Next.b c.in-Next.ensures g.T.Slot.slots g.met.T.Slot.sized c.walk.new.self
-            c.in_ok-walk-in-Next.ensures.walked,
-      ),
-    )
+    let ready = step.second_ready c.requires c.in-Next.ensures g.T.Slot.slots g.met.T.Slot.sized c.walk.new.self c.in_ok-walk-in-Next.ensures.walked in
+    (search (rules, step.next_second c.requires c.in-Next.ensures), (within, ready))
 
 pub returns-in_ok-walk-in-Next-clause-walked : goal.returns-in_ok-walk-in-Next-clause-walked
 returns-in_ok-walk-in-Next-clause-walked g t c =
-    let xs = c.args.program.now.nodes.now in
-    walked_as g.T.Slot.slots g.T.Slot.width c.args.self.now _ _ c.walk-in-Next.result c.walk-in-Next.new.self
-    (step.says_next c.requires c.in-Next.a c.in-Next.b c.in-Next.ensures)
-    (walked_followed g.T.Slot.slots g.T.Slot.width g.met.T.Slot.sized c.args.self.now c.walk.new.self
-    (went_in c.args.frame (meant xs c.in-Next.a)) (went_in c.args.frame (meant xs c.in-Next.b))
+    let said = λ (n : ℕ). went_in c.args.frame (meant c.args.program.now.nodes.now n) in
+    rw (step.says_next c.requires c.in-Next.ensures)
+    (walked_followed g.T.Slot.slots g.T.Slot.width g.met.T.Slot.sized c.args.self.now c.walk.new.self (said c.in-Next.a) (said c.in-Next.b)
     c.args.self.now.at c.walk-in-Next.result c.walk-in-Next.new.self
     (step.roomy_before c.requires) c.in_ok-walk-in-Next.ensures.walked c.walk-in-Next.ensures.walked)
 
 pub walk-requires-in-loop : goal.walk-requires-in-loop
 walk-requires-in-loop g t c κs within =
-    let less : c.in-Times.body < c.args.n = step.times_body c.requires c.in-Times.times c.in-Times.body c.in-Times.ensures in (
-      search rules,
-      (
-        within,
-        step.turn_ready c.requires c.in-Times.times c.in-Times.body c.in-Times.ensures g.T.Slot.slots g.met.T.Slot.sized
-            c.loop.counter c.loop.self c.loop-test.true c.loop.invariant.walked,
-      ),
-    )
+    let ready = step.turn_ready c.requires c.in-Times.ensures g.T.Slot.slots g.met.T.Slot.sized c.loop.counter c.loop.self c.loop-test.true c.loop.invariant.walked in
+    (search (rules, step.times_body c.requires c.in-Times.ensures), (within, ready))
 
 pub returns-in_err-walk-in-Times-clause-walked : goal.returns-in_err-walk-in-Times-clause-walked
 returns-in_err-walk-in-Times-clause-walked g t c =
-    let xs = c.args.program.now.nodes.now in
     rw (err_from_is_err_and c.from_residual-in_err-walk-in-Times.result c.from_residual-in_err-walk-in-Times.ensures.1).1
-    (ap (λ (w : Went). first_in reached c.args.self.now.said w.says) (step.says_times c.requires c.in-Times.times c.in-Times.body c.in-Times.ensures)
-    ∙ turn_stops g.T.Slot.slots g.T.Slot.width g.met.T.Slot.sized c.args.self.now c.loop.self
-    c.loop.counter c.in-Times.times (went_in c.args.frame (meant xs c.in-Times.body))
-    c.in_err-walk-in-Times.field-0.0 c.walk-in-loop.new.self c.loop-test.true
-    (step.roomy_before c.requires) c.loop.invariant.walked c.in_err-walk-in-Times.ensures.walked)
+    (stops_as c.args.self.now.said (step.says_times c.requires c.in-Times.ensures)
+    (turn_stops g.T.Slot.slots g.T.Slot.width g.met.T.Slot.sized c.args.self.now c.loop.self c.loop.counter c.in-Times.times
+    (went_in c.args.frame (meant c.args.program.now.nodes.now c.in-Times.body)) _ c.walk-in-loop.new.self c.loop-test.true
+    (step.roomy_before c.requires) c.loop.invariant.walked c.in_err-walk-in-Times.ensures.walked))
 
 pub loop-preserved : goal.loop-preserved
-loop-preserved g t c =
-    let xs = c.args.program.now.nodes.now in record {
-      same_room = c.in_ok-walk-in-Times.ensures.same_room ∙ c.loop.invariant.same_room;
-      walked = turn_more g.T.Slot.slots g.T.Slot.width g.met.T.Slot.sized c.args.self.now c.loop.self c.loop.counter
-          (went_in c.args.frame (meant xs c.in-Times.body)) (Ok tt) c.walk-in-loop.new.self
-          (step.roomy_before c.requires) c.loop.invariant.walked c.in_ok-walk-in-Times.ensures.walked;
-    }
+loop-preserved g t c = record {
+  same_room = c.in_ok-walk-in-Times.ensures.same_room ∙ c.loop.invariant.same_room;
+  walked = turn_more g.T.Slot.slots g.T.Slot.width g.met.T.Slot.sized c.args.self.now c.loop.self c.loop.counter _ (Ok tt) c.walk-in-loop.new.self
+      (step.roomy_before c.requires) c.loop.invariant.walked c.in_ok-walk-in-Times.ensures.walked;
+}
 
 pub returns-after-loop-clause-walked : goal.returns-after-loop-clause-walked
 returns-after-loop-clause-walked g t c =
-    let xs = c.args.program.now.nodes.now in
-    let e : c.loop.counter ≡ c.in-Times.times = omega arith in
-    walked_as g.T.Slot.slots g.T.Slot.width c.args.self.now _ _ (Ok tt) c.loop.self
-    (step.says_times c.requires c.in-Times.times c.in-Times.body c.in-Times.ensures ∙ ap (λ (i : ℕ). again i (went_in c.args.frame (meant xs c.in-Times.body)) c.args.self.now.at) (sym e))
-    c.loop.invariant.walked
+    let e : c.in-Times.times ≡ c.loop.counter = omega arith in rw (step.says_times c.requires c.in-Times.ensures, e) c.loop.invariant.walked
