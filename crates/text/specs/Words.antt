@@ -31,7 +31,7 @@ is_kind k b = by_kind (kind b) (by_kind k true false false) (by_kind k false tru
 
 abbrev pub word_len : List ℕ → ℕ
 word_len [] = 0
-word_len (b ∷ bs) = by_kind (kind b) 0 1 (prefix_len (is_kind Letter) (b ∷ bs))
+word_len (b ∷ bs) = by_kind (kind b) 0 1 (1 + prefix_len (is_kind Letter) bs)
 
 -- the words that are no numbers
 abbrev pub key_of : List ℕ → Token

@@ -37,7 +37,11 @@ pub fn word_len(text: &[u8]) -> usize
     ensures within { result ≤ length text.now }
 {
     match text {
-        [b, ..] if kind_of(*b) == Kind::Mark => 1,
-        _ => run_of(Kind::Letter, text),
+        [] => 0,
+        [b, rest @ ..] => match kind_of(*b) {
+            Kind::Gap => 0,
+            Kind::Mark => 1,
+            Kind::Letter => 1 + run_of(Kind::Letter, rest),
+        },
     }
 }
