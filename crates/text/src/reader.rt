@@ -98,6 +98,7 @@ pub fn read(heap: Global, text: &[u8]) -> Result<Vec<i64>, Failed<Unreadable>>
         start: text.len(),
         bytes: b"",
     };
+    // No `map_err`: a closure that takes the word along promises nothing, so the proof doesn't close.
     match draft.finish(phase) {
         Ok(nodes) => Ok(nodes),
         Err(fault) => Err(placed(fault, text, end, expected)),
