@@ -50,14 +50,11 @@ fn print(rt: &HostRuntime, targets: &[Target]) -> anyhow::Result<()> {
 fn tell(rt: &HostRuntime, text: &[u8], failure: &Failure) -> anyhow::Result<()> {
     match failure {
         Failure::Unreadable(unreadable) => {
-            let number = unreadable.refusal().number();
-            let line = unreadable.line;
             let words = explain(rt.alloc(), text, *unreadable)?;
-            eprintln!(rt; "refused {number} {line}: {words}")?;
+            eprintln!(rt; "refused {}: {words}", unreadable.refusal())?;
         }
         Failure::Refused(refusal, numbers) => {
-            let sentence = ProgramSentence(*refusal, found(*refusal, numbers));
-            eprintln!(rt; "{sentence}")?;
+            eprintln!(rt; "{}", ProgramSentence(*refusal, found(*refusal, numbers)))?;
         }
         Failure::Memory => eprintln!(rt; "there is not enough memory for the program")?,
     }
