@@ -1,6 +1,9 @@
 // A place in steps, an axis each.
-ghost use Rattle.std.specs.Prelude.{◌≡◌};
+ghost use Rattle.std.specs.Prelude.{◌≡◌, ◌++◌, Some, codes};
+ghost use Rattle.std.specs.Fmt.{signed_decimal};
 ghost use Rattle.geometry.specs.Places.{moved, within, Within};
+
+use std::fmt;
 
 #[derive(Clone, Copy, PartialEq, Eq, Debug)]
 pub struct Place {
@@ -30,5 +33,14 @@ impl Place {
             x: self.x + d.x,
             y: self.y + d.y,
         }
+    }
+}
+
+// Its axes, as programs and scripts write them.
+impl fmt::Display for Place {
+    ghost output = { λ p. Some (signed_decimal p.x ++ (codes " " ++ signed_decimal p.y)) };
+
+    fn fmt<W: fmt::Write>(&self, f: &mut fmt::Formatter<W>) -> fmt::Result {
+        write!(f, "{} {}", self.x, self.y)
     }
 }

@@ -8,34 +8,26 @@ pub struct ProgramSentence(pub Refusal, pub Option<i64>);
 
 impl fmt::Display for ProgramSentence {
     fn fmt<W: fmt::Write>(&self, f: &mut fmt::Formatter<W>) -> fmt::Result {
-        let number = self.0.number();
-        let place = self.0.place();
-        write!(f, "refused {number} {place}: ")?;
-        match self.0 {
-            Refusal::Shape(numbers) => {
-                let nodes = numbers / 4;
-                write!(
-                    f,
-                    "the program has {nodes} nodes, and 1024 fit (512 plain lines)"
-                )
-            }
-            Refusal::Number(_) => show_number(self.1, f),
-            Refusal::Room(count) => write!(f, "the program says {count} targets, and 16777216 fit"),
-            Refusal::Reach(target) => {
-                let nth = target.saturating_add(1);
-                write!(
-                    f,
-                    "the program's target {nth} is farther than 1000000000 on an axis"
-                )
-            }
+        let ProgramSentence(refusal, found) = *self;
+        write!(f, "refused {refusal}: ")?;
+        match (refusal, found) {
+            (Refusal::Shape(numbers), _) => write!(
+                f,
+                "the program has {} nodes, and 1024 fit (512 plain lines)",
+                numbers / 4
+            ),
+            (Refusal::Number(_), Some(n)) => write!(f, "the number {n} is past 1000000"),
+            (Refusal::Number(_), None) => f.write_str("a number is past 1000000"),
+            (Refusal::Room(count), _) => write!(
+                f,
+                "the program says {count} targets, and 16777216 fit"
+            ),
+            (Refusal::Reach(target), _) => write!(
+                f,
+                "the program's target {} is farther than 1000000000 on an axis",
+                target.saturating_add(1)
+            ),
             _ => f.write_str("the program's numbers can't be taken"),
         }
-    }
-}
-
-fn show_number<W: fmt::Write>(found: Option<i64>, f: &mut fmt::Formatter<W>) -> fmt::Result {
-    match found {
-        Some(n) => write!(f, "the number {n} is past 1000000"),
-        None => f.write_str("a number is past 1000000"),
     }
 }

@@ -1,4 +1,5 @@
 // Why a script is refused.
+use refusal::Failed;
 use script::{Expected, Fault, ScriptError, Wrong};
 use std::fmt;
 
@@ -7,36 +8,35 @@ const SHOWN: usize = 40;
 
 // Why a script is refused, as it is printed.
 #[derive(Drop)]
-pub struct Sentence<'a>(pub ScriptError<'a>);
+pub struct Sentence<'a>(pub Failed<ScriptError<'a>>);
 
 impl fmt::Display for Sentence<'_> {
     fn fmt<W: fmt::Write>(&self, f: &mut fmt::Formatter<W>) -> fmt::Result {
-        if let Some(refusal) = self.0.refusal() {
-            let number = refusal.number();
-            let place = refusal.place();
-            write!(f, "refused {number} {place}: ")?;
-        }
-        match &self.0 {
+        let Failed::Refused(error) = &self.0 else {
+            return f.write_str("there is not enough memory for the script");
+        };
+        write!(f, "refused {}: ", error.refusal())?;
+        match error {
             ScriptError::Text(line, wrong) => {
                 // As an editor counts lines.
-                let line = line.saturating_add(1);
-                write!(f, "line {line}: ")?;
+                write!(f, "line {}: ", line.saturating_add(1))?;
                 show_wrong(wrong, f)
             }
             ScriptError::Number(fault) => show_fault(*fault, f),
-            ScriptError::Memory => f.write_str("there is not enough memory for the script"),
         }
     }
 }
 
+// A word is shown up to a length that fits into a sentence.
 fn show_wrong<W: fmt::Write>(wrong: &Wrong<'_>, f: &mut fmt::Formatter<W>) -> fmt::Result {
-    f.write_str("expected ")?;
-    f.write_str(words(wrong.expected))?;
-    if wrong.found.is_empty() {
-        return f.write_str(", but nothing more stands there");
+    write!(f, "expected {}", words(wrong.expected))?;
+    match wrong.found {
+        Some(word) => {
+            let shown = &word[..word.len().min(SHOWN)];
+            write!(f, ", found `{}`", shown.escape_ascii())
+        }
+        None => f.write_str(", but nothing more stands there"),
     }
-    let found = shown(wrong.found).escape_ascii();
-    write!(f, ", found `{found}`")
 }
 
 fn words(expected: Expected) -> &'static str {
@@ -49,27 +49,14 @@ fn words(expected: Expected) -> &'static str {
     }
 }
 
-// A word, or the beginning of one that is too long for a sentence.
-fn shown(word: &[u8]) -> &[u8] {
-    if word.len() <= SHOWN {
-        return word;
-    }
-    let (start, _) = word.split_at(SHOWN);
-    start
-}
-
 fn show_fault<W: fmt::Write>(fault: Fault, f: &mut fmt::Formatter<W>) -> fmt::Result {
     match fault {
         Fault::Change(n) => write!(f, "a change of speed of {n} is not from 1 to 1000000"),
         Fault::Top(n) => write!(f, "a top speed of {n} is not from 1 to 1000000"),
-        Fault::Far(place) => {
-            let x = place.x;
-            let y = place.y;
-            write!(
-                f,
-                "the target {x} {y} is farther than 1000000000 on an axis"
-            )
-        }
+        Fault::Far(place) => write!(
+            f,
+            "the target {place} is farther than 1000000000 on an axis"
+        ),
         Fault::Knob(n) => write!(f, "the knob at {n} percent is above 1000"),
     }
 }

@@ -2,12 +2,12 @@
 
 #![tactic(auto)]
 
-use anyhow::anyhow;
+use anyhow::bail;
 use control::Control;
 use decimal::put_place;
 use message::Sentence;
 use player::run;
-use script::{Order, Script, read};
+use script::{Machine, Order, Script, read};
 use std::io::{Read, Write};
 use std::process::ExitCode;
 
@@ -20,8 +20,7 @@ fn main(rt: HostRuntime) -> anyhow::Result<ExitCode> {
             Ok(ExitCode::SUCCESS)
         }
         Err(error) => {
-            let sentence = Sentence(error);
-            eprintln!(rt; "{sentence}")?;
+            eprintln!(rt; "{}", Sentence(error))?;
             Ok(ExitCode::FAILURE)
         }
     }
@@ -29,15 +28,16 @@ fn main(rt: HostRuntime) -> anyhow::Result<ExitCode> {
 
 // Does each order of a script, which was checked whole.
 fn play(rt: &HostRuntime, script: &Script) -> anyhow::Result<()> {
-    let Ok(mut control) = Control::load(script.change, script.top, Vec::new(rt.alloc())) else {
-        return Err(anyhow!("the machine is unfit"));
+    let Machine { change, top } = script.machine;
+    let Ok(mut control) = Control::load(change, top, Vec::new(rt.alloc())) else {
+        bail!("the machine is unfit");
     };
     let mut out = Vec::new(rt.alloc());
     for order in &script.orders {
         match *order {
             Order::To(target) => {
                 if control.add(target).is_err() {
-                    return Err(anyhow!("the target was not added"));
+                    bail!("the target was not added");
                 }
             }
             Order::Tick(n) => ticks(rt, &mut control, n, &mut out)?,

@@ -5,12 +5,13 @@
 
 #![tactic(auto)]
 
-ghost use Rattle.std.specs.Prelude.{◌≡◌};
+ghost use Rattle.std.specs.Prelude.{◌≡◌, ◌++◌, Some, codes, decimal};
 ghost use Rattle.refusal.specs.Refusals.{number, place};
 
 mod failed;
 
 pub use failed::Failed;
+use std::fmt;
 
 // What of a machine is turned away.
 #[derive(Clone, Copy, PartialEq, Eq, Debug)]
@@ -93,5 +94,14 @@ impl Refusal {
             Refusal::Event(EventPart::Kind) => 0,
             Refusal::Event(EventPart::Number) => 1,
         }
+    }
+}
+
+// Its number and its place, as programs print them.
+impl fmt::Display for Refusal {
+    ghost output = { λ r. Some (decimal (number r) ++ (codes " " ++ decimal (place r))) };
+
+    fn fmt<W: fmt::Write>(&self, f: &mut fmt::Formatter<W>) -> fmt::Result {
+        write!(f, "{} {}", self.number(), self.place())
     }
 }

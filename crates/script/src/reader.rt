@@ -92,7 +92,7 @@ fn check(script: &Script) -> Result<(), Fault>
 fn is_in_limits(n: u64) -> bool
     ensures { result ≡ in_limits n }
 {
-    1 <= n && n <= 1_000_000
+    (1..=1_000_000).contains(&n)
 }
 
 // No target is too far.

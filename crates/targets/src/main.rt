@@ -50,17 +50,15 @@ fn print(rt: &HostRuntime, targets: &[Target]) -> anyhow::Result<()> {
 fn tell(rt: &HostRuntime, text: &[u8], failure: &Failure) -> anyhow::Result<()> {
     match failure {
         Failure::Unreadable(unreadable) => {
-            let number = Refusal::from(*unreadable).number();
-            let line = unreadable.line;
+            let refusal = Refusal::from(*unreadable);
             let sentence = TextSentence {
                 text,
                 fault: *unreadable,
             };
-            eprintln!(rt; "refused {number} {line}: {sentence}")?;
+            eprintln!(rt; "refused {refusal}: {sentence}")?;
         }
         Failure::Refused(refusal, numbers) => {
-            let sentence = ProgramSentence(*refusal, found(*refusal, numbers));
-            eprintln!(rt; "{sentence}")?;
+            eprintln!(rt; "{}", ProgramSentence(*refusal, found(*refusal, numbers)))?;
         }
         Failure::Memory => eprintln!(rt; "there is not enough memory for the program")?,
     }
