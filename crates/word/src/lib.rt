@@ -1,18 +1,11 @@
-// A word of a text: whether it is a given one, and the number that it writes; and the lines of a text, counted. It knows
+// What the readers of texts and of scripts share: the number that a word writes, and the line feeds of a text. It knows
 // nothing of what a text means, or of how words stand apart in it.
 
 #![tactic(auto)]
 
 ghost use Rattle.std.specs.Prelude.{◌≡◌};
-ghost use Rattle.std.specs.Str.{bytes_eq};
 ghost use Rattle.word.specs.Lines.{feeds};
 ghost use Rattle.word.specs.Numbers.{number_of, magnitude, up, down};
-
-pub fn is(word: &[u8], name: &[u8]) -> bool
-    ensures { result ≡ bytes_eq word.now name.now }
-{
-    word == name
-}
 
 // How many line feeds there are.
 pub fn line_feeds(bytes: &[u8]) -> u64
