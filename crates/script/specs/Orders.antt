@@ -1,6 +1,7 @@
 -- What the contracts of reading an order cite: what the words of a line say. Assumes nothing.
 --   Misread          a word that can't stand where it stands, and what may: no word where the line ends too early
 --   misread w        the same, as code tells it
+--   Reads s r        r is what s says: a value, or the word that can't stand there
 --   instead k e      the word k, where e may stand; or none
 --   next r f         f of the value in r, if there is one
 --   or_instead o k e the value in o, or the word k where e may stand
@@ -13,7 +14,7 @@
 --   plain_of k ws    the same, with no words behind it
 --   order_of k ws    the order of a line whose first word is k
 --   machine_of k ws  the machine of such a line: by how much its speed may change, and the highest
-use Rattle.std.specs.Prelude.{ℕ, cond, List, [], ◌∷◌, ℤ, Some, None, Ok, Err, codes, Option, Result}
+use Rattle.std.specs.Prelude.{◌≡◌, ℕ, cond, List, [], ◌∷◌, ℤ, Some, None, Ok, Err, codes, Option, Result}
 use Rattle.std.specs.Option.{option_copied}
 use Rattle.std.specs.Str.{bytes_eq}
 use Rattle.program.specs.declared.target.Target.{Target}
@@ -32,6 +33,10 @@ pub record Misread : Type 0 where
 
 abbrev pub misread : Wrong → Misread
 misread w = record { found = option_copied w.found; expects = w.expected }
+
+abbrev pub Reads : {A : Type 0} → Result A Misread → Result A Wrong → Type 0
+Reads s (Ok a) = s ≡ Ok a
+Reads s (Err w) = s ≡ Err (misread w)
 
 abbrev pub instead : {A : Type 0} → Option (List ℕ) → Expected → Result A Misread
 instead k e = Err (record { found = k; expects = e })

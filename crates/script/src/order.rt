@@ -1,7 +1,6 @@
 // What the words of a line say: the machine, or an order.
-ghost use Rattle.std.specs.Prelude.{◌≡◌, codes, Ok, Err, MatchResult};
 ghost use Rattle.script.specs.Words.{words};
-ghost use Rattle.script.specs.Orders.{misread, target_of, order_of, machine_of};
+ghost use Rattle.script.specs.Orders.{Reads, target_of, order_of, machine_of};
 
 use crate::fault::{Expected, Wrong};
 use crate::script::{Machine, Order};
@@ -12,7 +11,7 @@ use program::Target;
 
 // What stands behind `to`.
 fn target<'a>(mut rest: Words<'a>) -> Result<Target, Wrong<'a>>
-    ensures { MatchResult result (λ t. target_of (words rest.entry.rest.now) ≡ Ok t) (λ e. target_of (words rest.entry.rest.now) ≡ Err (misread e)) }
+    ensures { Reads (target_of (words rest.entry.rest.now)) result }
 {
     let x = rest.number()?;
     let y = rest.number()?;
@@ -25,7 +24,7 @@ fn target<'a>(mut rest: Words<'a>) -> Result<Target, Wrong<'a>>
 
 // The order of a line whose first word is `key`.
 pub fn order<'a>(key: &'a [u8], rest: Words<'a>) -> Result<Order, Wrong<'a>>
-    ensures { MatchResult result (λ o. order_of key.now (words rest.entry.rest.now) ≡ Ok o) (λ e. order_of key.now (words rest.entry.rest.now) ≡ Err (misread e)) }
+    ensures { Reads (order_of key.now (words rest.entry.rest.now)) result }
 {
     match key {
         b"to" => Ok(Order::To(target(rest)?)),
@@ -42,22 +41,15 @@ pub fn order<'a>(key: &'a [u8], rest: Words<'a>) -> Result<Order, Wrong<'a>>
 }
 
 // The machine of a line whose first word is `key`.
-pub fn machine<'a>(key: &'a [u8], rest: Words<'a>) -> Result<Machine, Wrong<'a>>
-    ensures { MatchResult result (λ m. machine_of key.now (words rest.entry.rest.now) ≡ Ok m) (λ e. machine_of key.now (words rest.entry.rest.now) ≡ Err (misread e)) }
+pub fn machine<'a>(key: &'a [u8], mut rest: Words<'a>) -> Result<Machine, Wrong<'a>>
+    ensures { Reads (machine_of key.now (words rest.entry.rest.now)) result }
 {
-    match key {
-        b"machine" => speeds(rest),
-        _ => Err(Wrong {
+    if key != b"machine".as_slice() {
+        return Err(Wrong {
             found: Some(key),
             expected: Expected::Machine,
-        }),
+        });
     }
-}
-
-// What stands behind `machine`.
-fn speeds<'a>(mut rest: Words<'a>) -> Result<Machine, Wrong<'a>>
-    ensures { MatchResult result (λ m. machine_of (codes "machine") (words rest.entry.rest.now) ≡ Ok m) (λ e. machine_of (codes "machine") (words rest.entry.rest.now) ≡ Err (misread e)) }
-{
     let change = count(rest.number()?);
     let top = count(rest.last_number()?);
     Ok(Machine { change, top })

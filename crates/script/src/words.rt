@@ -2,7 +2,7 @@
 ghost use Rattle.std.specs.Prelude.{◌≡◌, Ok, Err, MatchResult};
 ghost use Rattle.std.specs.List.{prefix_len};
 ghost use Rattle.script.specs.Words.{gap, letter, words};
-ghost use Rattle.script.specs.Orders.{misread, numbered, ended, last_of, speed_of};
+ghost use Rattle.script.specs.Orders.{Reads, misread, numbered, ended, last_of, speed_of};
 
 use crate::fault::{Expected, Wrong};
 use word::number;
@@ -33,7 +33,7 @@ impl<'a> Words<'a> {
 
     // What was read, if no word stands behind it.
     pub fn ended<T: Drop>(mut self, read: T) -> Result<T, Wrong<'a>>
-        ensures { MatchResult result (λ r. ended (words self.entry.rest.now) read ≡ Ok r) (λ e. ended (words self.entry.rest.now) read ≡ Err (misread e)) }
+        ensures { Reads (ended (words self.entry.rest.now) read) result }
     {
         match self.next() {
             None => Ok(read),
@@ -46,7 +46,7 @@ impl<'a> Words<'a> {
 
     // The number that the line ends with.
     pub fn last_number(mut self) -> Result<i64, Wrong<'a>>
-        ensures { MatchResult result (λ n. last_of (words self.entry.rest.now) ≡ Ok n) (λ e. last_of (words self.entry.rest.now) ≡ Err (misread e)) }
+        ensures { Reads (last_of (words self.entry.rest.now)) result }
     {
         let n = self.number()?;
         self.ended(n)
@@ -54,7 +54,7 @@ impl<'a> Words<'a> {
 
     // The number behind the word `fast`, that the line ends with.
     pub fn speed(mut self) -> Result<i64, Wrong<'a>>
-        ensures { MatchResult result (λ n. speed_of (words self.entry.rest.now) ≡ Ok n) (λ e. speed_of (words self.entry.rest.now) ≡ Err (misread e)) }
+        ensures { Reads (speed_of (words self.entry.rest.now)) result }
     {
         match self.next() {
             Some(b"fast") => self.last_number(),
