@@ -1,5 +1,4 @@
 // What the words of a line say: the machine, or an order.
-ghost use Rattle.script.specs.Words.{words};
 ghost use Rattle.script.specs.Orders.{Reads, target_of, order_of, machine_of};
 
 use crate::fault::{Expected, Wrong};
@@ -11,7 +10,7 @@ use program::Target;
 
 // What stands behind `to`.
 fn target<'a>(mut rest: Words<'a>) -> Result<Target, Wrong<'a>>
-    ensures { Reads (target_of (words rest.entry.rest.now)) result }
+    ensures { Reads (target_of rest.entry) result }
 {
     let x = rest.number()?;
     let y = rest.number()?;
@@ -24,7 +23,7 @@ fn target<'a>(mut rest: Words<'a>) -> Result<Target, Wrong<'a>>
 
 // The order of a line whose first word is `key`.
 pub fn order<'a>(key: &'a [u8], rest: Words<'a>) -> Result<Order, Wrong<'a>>
-    ensures { Reads (order_of key.now (words rest.entry.rest.now)) result }
+    ensures { Reads (order_of key.now rest.entry) result }
 {
     match key {
         b"to" => Ok(Order::To(target(rest)?)),
@@ -42,7 +41,7 @@ pub fn order<'a>(key: &'a [u8], rest: Words<'a>) -> Result<Order, Wrong<'a>>
 
 // The machine of a line whose first word is `key`.
 pub fn machine<'a>(key: &'a [u8], mut rest: Words<'a>) -> Result<Machine, Wrong<'a>>
-    ensures { Reads (machine_of key.now (words rest.entry.rest.now)) result }
+    ensures { Reads (machine_of key.now rest.entry) result }
 {
     if key != b"machine".as_slice() {
         return Err(Wrong {

@@ -5,24 +5,34 @@ ghost use Rattle.script.specs.Words.{gap, letter, words};
 ghost use Rattle.script.specs.Orders.{Reads, misread, numbered, ended, last_of, speed_of};
 
 use crate::fault::{Expected, Wrong};
+use std::marker::Model;
 use word::number;
 
-// The words that are left of a line.
-#[derive(Clone, Copy)]
+// The words that are left of a line: in contracts, the list of them.
+#[derive(Drop)]
 pub struct Words<'a> {
     rest: &'a [u8],
 }
 
+impl<'a> Model for Words<'a> {
+    ghost use Rattle.std.specs.Prelude.{ℕ, List};
+    ghost use Rattle.script.specs.Words.{words};
+
+    ghost Value = { List (List ℕ) };
+
+    ghost view = { λ a. words a.rest.now };
+}
+
 impl<'a> Words<'a> {
     pub fn of(line: &'a [u8]) -> Words<'a>
-        ensures { result.rest.now ≡ line.now }
+        ensures { result ≡ words line.now }
     {
         Words { rest: line }
     }
 
     // The next word, which has to be a number.
     pub fn number(&mut self) -> Result<i64, Wrong<'a>>
-        ensures { MatchResult result (λ n. numbered (words self.old.rest.now) ≡ Ok (n, words self.new.rest.now)) (λ e. numbered (words self.old.rest.now) ≡ Err (misread e)) }
+        ensures { MatchResult result (λ n. numbered self.old ≡ Ok (n, self.new)) (λ e. numbered self.old ≡ Err (misread e)) }
     {
         let found = self.next();
         found.and_then(number).ok_or(Wrong {
@@ -33,7 +43,7 @@ impl<'a> Words<'a> {
 
     // What was read, if no word stands behind it.
     pub fn ended<T: Drop>(mut self, read: T) -> Result<T, Wrong<'a>>
-        ensures { Reads (ended (words self.entry.rest.now) read) result }
+        ensures { Reads (ended self.entry read) result }
     {
         match self.next() {
             None => Ok(read),
@@ -46,7 +56,7 @@ impl<'a> Words<'a> {
 
     // The number that the line ends with.
     pub fn last_number(mut self) -> Result<i64, Wrong<'a>>
-        ensures { Reads (last_of (words self.entry.rest.now)) result }
+        ensures { Reads (last_of self.entry) result }
     {
         let n = self.number()?;
         self.ended(n)
@@ -54,7 +64,7 @@ impl<'a> Words<'a> {
 
     // The number behind the word `fast`, that the line ends with.
     pub fn speed(mut self) -> Result<i64, Wrong<'a>>
-        ensures { Reads (speed_of (words self.entry.rest.now)) result }
+        ensures { Reads (speed_of self.entry) result }
     {
         match self.next() {
             Some(b"fast") => self.last_number(),
@@ -70,17 +80,19 @@ impl<'a> Iterator for Words<'a> {
     type Item = &'a [u8];
 
     ghost use Rattle.std.specs.Iterator.{YieldsFirstRef, item_count};
-    ghost use Rattle.script.specs.Words.{words};
 
-    ghost next_gives = { YieldsFirstRef (λ s. words s.rest.now) };
+    ghost next_gives = { YieldsFirstRef (λ s. s) };
 
-    ghost remaining = { item_count (λ s. words s.rest.now) };
+    ghost remaining = { item_count (λ s. s) };
 
     fn next(&mut self) -> Option<&'a [u8]> {
         let (_, from) = self.rest.split_at(gap_len(self.rest));
         let (word, rest) = from.split_at(word_len(from));
         self.rest = rest;
-        if word.is_empty() { None } else { Some(word) }
+        if word.is_empty() {
+            return None;
+        }
+        Some(word)
     }
 }
 

@@ -1,4 +1,4 @@
-use Rattle.std.proofs.Common.{sym, arith, rules}
+use Rattle.std.proofs.Common.{arith, sym, ◌∙◌, rules}
 use Rattle.std.proofs.lemmas.List.Sums.{prefix_len-le-length}
 use Rattle.script.proofs.Scans.{some_word, no_word}
 use Rattle.script.proofs.words.WordsIterator.next.Goals as goal
@@ -10,10 +10,17 @@ pub split_at-requires-2 : goal.split_at-requires-2
 split_at-requires-2 c = omega (arith, prefix_len-le-length)
 
 pub returns-then-is_empty-clause-steps : goal.returns-then-is_empty-clause-steps
-returns-then-is_empty-clause-steps c = no_word c.args.self.now.rest.now c.split_at.result.1.now c.split_at-2.result.1.now (cc) (cc) c.split_at-2.result.0.now (cc) (sym c.if-is_empty.ensures)
+returns-then-is_empty-clause-steps c =
+    let n = no_word c.self.inside.rest.now c.split_at.result.1.now c.split_at-2.result.1.now (cc) (cc) c.split_at-2.result.0.now (cc) (sym c.if-is_empty.ensures) in
+    (sym c.self.view_is ∙ n.0, n.1)
 
-pub returns-else-is_empty-clause-steps : goal.returns-else-is_empty-clause-steps
-returns-else-is_empty-clause-steps c = some_word c.args.self.now.rest.now c.split_at.result.1.now c.split_at-2.result.1.now (cc) (cc) c.split_at-2.result.0.now (cc) (sym c.if-is_empty.ensures)
+pub returns-clause-steps : goal.returns-clause-steps
+returns-clause-steps c =
+    sym c.self.view_is
+    ∙ some_word c.self.inside.rest.now c.split_at.result.1.now c.split_at-2.result.1.now (cc) (cc) c.split_at-2.result.0.now (cc) (sym c.if-is_empty.ensures)
 
-pub returns-else-is_empty-clause-goes : goal.returns-else-is_empty-clause-goes
-returns-else-is_empty-clause-goes c = let e = some_word c.args.self.now.rest.now c.split_at.result.1.now c.split_at-2.result.1.now (cc) (cc) c.split_at-2.result.0.now (cc) (sym c.if-is_empty.ensures) in search rules
+pub returns-clause-goes : goal.returns-clause-goes
+returns-clause-goes c =
+    let n = sym c.self.view_is
+    ∙ some_word c.self.inside.rest.now c.split_at.result.1.now c.split_at-2.result.1.now (cc) (cc) c.split_at-2.result.0.now (cc) (sym c.if-is_empty.ensures) in
+    search rules
