@@ -3,12 +3,13 @@
 --   unread n w       the line n and the word of it that can't stand where it stands
 --   told s           what a script that was read says
 --   goes_on e n s ls what a script says whose first n lines said s, and whose others are ls; line e where none has a word
---   Said n s l r     r is what the first n lines said, and then the line l: or why that can't be read, or the want of memory
+--   Said n s l r     r is what the first n lines said, and then the line l: or why that can't be read, or, behind a machine,
+--                    the want of memory
 --   Goes s r         r is what a script says, or the line that can't be read and why, or the want of memory
 --   Unfit s f        f is the first number out of its limits of a script that says s
 --   Answers s r      r is what reading a script comes to that says s: the script, the line that can't be read, the first
 --                    number out of its limits, or the want of memory
-use Rattle.std.specs.Prelude.{◌≡◌, ℕ, ◌+◌, List, ◌∷◌, Some, None, Ok, Err, vec_items, Option, Result}
+use Rattle.std.specs.Prelude.{◌≡◌, ℕ, ◌+◌, List, ◌∷◌, Some, None, Ok, Err, vec_items, Option, Result, IsSome}
 use Rattle.refusal.specs.declared.Refusal.{Refusal}
 use Rattle.refusal.specs.declared.EventPart.TheVariants as event
 use Rattle.refusal.specs.declared.LentPart.TheVariants as lent
@@ -46,7 +47,7 @@ abbrev pub Said : ℕ → Option Script → List ℕ → Result (Option Script) 
 Said n s l (Ok t) = (e : ℕ) (ls : List (List ℕ)) → goes_on e n s (l ∷ ls) ≡ goes_on e (n + 1) t ls
 Said n s l (Err (Refused (Text line wrong))) = (e : ℕ) (ls : List (List ℕ)) → goes_on e n s (l ∷ ls) ≡ Err (unread line wrong)
 Said n s l (Err (Refused (Number f))) = ⊥
-Said n s l (Err Memory) = Unit {0}
+Said n s l (Err Memory) = IsSome s
 
 abbrev pub Goes : Result Told Unread → Result Script (Failed ScriptError) → Type 0
 Goes s (Ok r) = s ≡ Ok (told r)
