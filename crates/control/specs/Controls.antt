@@ -7,6 +7,7 @@
 --   Reached m ts w   some row of events leads from the beginning to w
 --   State            what callers see of a control: its machine, its targets, its work
 --   IsLoaded         what holds of a control in every state
+--   Loaded c         the same of a control as callers see it
 --   Happened c e d   the event e leaves d of the control c
 --   Few c d          d is no more than a tick of c gives at the most
 --   Added t r c d    an added target t that is answered by r leaves d of the control c
@@ -66,6 +67,9 @@ pub record IsLoaded (m : Machine) (ts : List Target) (w : Work) (p : Place) : Ty
   pub close : near ts ≡ true
   pub reached : Reached m ts w
   pub stood : p ≡ place ts w.motion
+
+abbrev pub Loaded : State → Type 0
+Loaded c = IsLoaded c.machine c.targets c.work (place c.targets c.work.motion)
 
 -- what an event makes of a control: what it was loaded with stays, its work is what the event makes of it, and that keeps the promise
 pub record Happened (c : State) (e : Event) (d : State) : Type 0 where

@@ -2,7 +2,7 @@
 // some row of events leads to from the beginning.
 ghost use Rattle.std.specs.Prelude.{◌≡◌, ◌≢◌, length, Ok, Err, MatchResult, nat_le};
 ghost use Rattle.geometry.specs.Places.{Within};
-ghost use Rattle.control.specs.Controls.{near, origin, load_of, Happened, Added, Few};
+ghost use Rattle.control.specs.Controls.{near, origin, load_of, Loaded, Happened, Added, Few};
 ghost use Rattle.pulses.specs.Motors.{pulses};
 ghost use Rattle.work.specs.Works.{begun, place};
 ghost use Rattle.work.specs.declared.event.Event.TheVariants.{Tick, Hold, Go, Knob};
@@ -112,7 +112,8 @@ impl Control {
 
     // Whether no target is left.
     pub fn is_done(&self) -> bool
-        ensures { result ≡ nat_le (length self.now.targets) self.now.work.motion.behind }
+        ensures done { result ≡ nat_le (length self.now.targets) self.now.work.motion.behind }
+        ensures loaded { Loaded self.now }
     {
         self.targets.len() <= self.work.motion.behind
     }

@@ -15,7 +15,7 @@ use Rattle.script.specs.Words.{words_after, words, lines_after, lines}
 use Rattle.word.specs.Lines.{feeds}
 use Rattle.script.specs.Orders.{order_of, machine_of}
 use Rattle.script.specs.Scripts.{by_words, or_line, told_by, Told, Unread, orders_from, script_from, reads}
-use Rattle.script.specs.Refusals.{goes_on, Said, Goes}
+use Rattle.script.specs.Refusals.{goes_on, Said, Reading}
 use Rattle.refusal.specs.declared.failed.Failed.{Failed}
 use Rattle.refusal.specs.declared.failed.Failed.TheVariants.{Refused, Memory}
 use Rattle.script.specs.declared.fault.ScriptError.{ScriptError}
@@ -62,7 +62,7 @@ reads_pieces bs = elim (split_lines [] bs (All-nil _)) [
 ]
 
 -- what a line that can't be read makes of the script
-pub refused : (f : Failed ScriptError) (e n : ℕ) (s : Option Script) (l : List ℕ) (ls : List (List ℕ)) (r : Result Told Unread) → goes_on e n s (l ∷ ls) ≡ r → Said n s l (Err f) → Goes r (Err f)
+pub refused : (f : Failed ScriptError) (e n : ℕ) (s : Option Script) (l : List ℕ) (ls : List (List ℕ)) (r : Result Told Unread) → goes_on e n s (l ∷ ls) ≡ r → Said n s l (Err f) → Reading r (Err f)
 refused (Refused (Text line wrong)) e n s l ls r g h = sym g ∙ h e ls
 refused (Refused (Number fault)) e n s l ls r g h = absurd h
 refused Memory e n s l ls r g h = tt

@@ -5,7 +5,7 @@
 --   goes_on e n s ls what a script says whose first n lines said s, and whose others are ls; line e where none has a word
 --   Said n s l r     r is what the first n lines said, and then the line l: or why that can't be read, or, behind a machine,
 --                    the want of memory
---   Goes s r         r is what a script says, or the line that can't be read and why, or the want of memory
+--   Reading s r         r is what a script says, or the line that can't be read and why, or the want of memory
 --   Unfit s f        f is the first number out of its limits of a script that says s
 --   Answers s r      r is what reading a script comes to that says s: the script, the line that can't be read, the first
 --                    number out of its limits, or the want of memory
@@ -49,11 +49,11 @@ Said n s l (Err (Refused (Text line wrong))) = (e : ℕ) (ls : List (List ℕ)) 
 Said n s l (Err (Refused (Number f))) = ⊥
 Said n s l (Err Memory) = IsSome s
 
-abbrev pub Goes : Result Told Unread → Result Script (Failed ScriptError) → Type 0
-Goes s (Ok r) = s ≡ Ok (told r)
-Goes s (Err (Refused (Text line wrong))) = s ≡ Err (unread line wrong)
-Goes s (Err (Refused (Number f))) = ⊥
-Goes s (Err Memory) = Unit {0}
+abbrev pub Reading : Result Told Unread → Result Script (Failed ScriptError) → Type 0
+Reading s (Ok r) = s ≡ Ok (told r)
+Reading s (Err (Refused (Text line wrong))) = s ≡ Err (unread line wrong)
+Reading s (Err (Refused (Number f))) = ⊥
+Reading s (Err Memory) = Unit {0}
 
 abbrev pub Unfit : Result Told Unread → Fault → Type 0
 Unfit (Ok t) f = unfit t ≡ Some f

@@ -1,7 +1,7 @@
 // A script, line by line, and then its numbers.
 ghost use Rattle.std.specs.Prelude.{◌≡◌, ◌+◌, ◌^◌, ◌<◌, None, Some, MatchResult};
 ghost use Rattle.script.specs.Scripts.{reads, far, beyond, in_limits, unfit};
-ghost use Rattle.script.specs.Refusals.{Answers, Goes, Said, told};
+ghost use Rattle.script.specs.Refusals.{Answers, Reading, Said, told};
 
 use crate::fault::{Expected, Fault, ScriptError, Wrong};
 use crate::order::{machine, order};
@@ -23,7 +23,7 @@ pub fn read(heap: Global, text: &[u8]) -> Result<Script, Failed<ScriptError<'_>>
 
 // What a script says, whatever its numbers.
 fn told(heap: Global, text: &[u8]) -> Result<Script, Failed<ScriptError<'_>>>
-    ensures { Goes (reads text.now) result }
+    ensures { Reading (reads text.now) result }
 {
     let mut script = None;
     for (line, now) in text.split(|b| *b == b'\n').enumerate() {

@@ -3,7 +3,7 @@
 --   then t u         lines, and more lines behind them
 --   place_of a ps    the first place of a node's part
 --   push_node        a node's part, on those that wait to be used, the newest first; none where it names others
---   rebuilt          the int_eq for all nodes; what waits at last is the program's lines, and below it its sub-programs
+--   rebuilt          the same for all nodes; what waits at last is the program's lines, and below it its sub-programs
 --   program_of       the program of nodes in reading order
 use Rattle.std.specs.Prelude.{ℕ, ◌+◌, cond, ◌&&◌, List, [], ◌∷◌, map, reverse, ℤ, pos, Some, None, Option}
 use Rattle.text.specs.declared.phase.Block.TheVariants.{Repeat, Offset, Turned, Mirrored}
