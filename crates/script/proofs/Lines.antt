@@ -1,14 +1,21 @@
 -- A script's lines are the pieces between its line feeds: one that is empty and last says nothing.
 use Rattle.std.proofs.Common.{◌≡◌, ℕ, ◌+◌, ◌<◌, Bool, false, eqb, List, [], ◌∷◌, ◌++◌, length, drop, Some, None, Err, Option, Result, All, ◌⊎◌, inl, inr, sym, refl, ap, ◌∙◌, arith, append_assoc, append-nil}
+use Rattle.std.specs.declared.iter.Enumerate.{Enumerate}
+use Rattle.std.specs.declared.slice.Split.{Split}
+use Rattle.std.specs.Fn.{CalledAt}
 use Rattle.std.specs.Iterator.{Yields}
+use Rattle.std.specs.Iterator.Adapters.{enumerate_source, enumerate_count, enumerate_steps}
+use Rattle.std.specs.Slice.Iter.{split_rest, split_done, split_callee, split_steps}
 use Rattle.std.specs.List.{slice_split, enumerate_from}
 use Rattle.std.proofs.lemmas.Bool.{cases_Bool}
 use Rattle.std.proofs.lemmas.Iterator.{YieldsList}
-use Rattle.std.proofs.lemmas.Iterator.Consumers.{YieldsList-turn, YieldsList-end}
+use Rattle.std.proofs.lemmas.Iterator.Consumers.{YieldsList-at, YieldsList-from_enumerate, YieldsList-turn, YieldsList-end}
+use Rattle.std.proofs.lemmas.Iterator.Splits.{YieldsList-from_slice_split}
 use Rattle.std.proofs.lemmas.List.{drop_more, drop_all}
 use Rattle.std.proofs.lemmas.List.Elements.{All-push, All-nil}
 use Rattle.std.proofs.lemmas.List.FromFn.{length-enumerate_from, get_or-enumerate_from}
 use Rattle.std.proofs.lemmas.List.Splits.{slice_split_at, slice_split_none}
+use denote.Param.Members.{Mut}
 use denote.Ref.{Bor}
 use Rattle.script.specs.declared.script.Order.{Order}
 use Rattle.script.specs.Words.{words_after, words, lines_after, lines}
@@ -66,6 +73,14 @@ pub refused : (f : Failed ScriptError) (e n : ℕ) (s : Option Script) (l : List
 refused (Refused (Text line wrong)) e n s l ls r g h = sym g ∙ h e ls
 refused (Refused (Number fault)) e n s l ls r g h = absurd h
 refused Memory e n s l ls r g h = tt
+
+-- the pieces with their numbers, by what `split` and `enumerate` say
+pub numbered : {F : Type 0} {g : Mut F (Bor ℕ × Unit {0}) Bool} {f : F} {cut : Split ℕ F} {counted it : Enumerate (Split ℕ F)} (bs : List ℕ)
+    → split_rest cut ≡ bs → split_done cut ≡ false → split_callee cut ≡ f → ((x : ℕ) (b : Bool) (q : F) → CalledAt g f x b q → (q ≡ f) × (b ≡ feed x))
+    → enumerate_source counted ≡ cut → enumerate_count counted ≡ 0 → it ≡ counted
+    → YieldsList (enumerate_steps (split_steps g)) (λ p. (p.0, p.1.now)) it (enumerate_from 0 (pieces bs))
+numbered {g = g} bs rest done callee computes source count same =
+    YieldsList-at same (YieldsList-from_enumerate (YieldsList-at source (YieldsList-from_slice_split g feed bs rest done callee computes)) count)
 
 -- one turn of a loop over numbered pieces, and its end
 module _ {S : Type 0} {steps : S → Option (ℕ × Bor (List ℕ)) → S → Type 0} {s : S} (xs : List (ℕ × Bor (List ℕ))) {t : S} (so_far : Yields steps s xs t)

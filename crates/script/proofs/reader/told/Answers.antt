@@ -1,17 +1,15 @@
 use Rattle.std.proofs.Common.{◌≡◌, ◌+◌, length, drop, Err, sym, ◌∙◌, rules, tests, arith}
-use Rattle.std.proofs.lemmas.Iterator.Consumers.{YieldsList-at, YieldsList-from_enumerate}
-use Rattle.std.proofs.lemmas.Iterator.Splits.{YieldsList-from_slice_split}
 use Rattle.std.proofs.lemmas.List.{length_push}
 use Rattle.std.proofs.lemmas.Grind.{common_steps}
 use Rattle.script.specs.Scripts.{script_from, orders_from}
 use Rattle.word.specs.Lines.{feeds}
-use Rattle.script.proofs.Lines.{feed, pieces, reads_pieces, refused, turn, over}
+use Rattle.script.proofs.Lines.{pieces, numbered, reads_pieces, refused, turn, over}
 use Rattle.script.proofs.reader.told.Goals as goal
 
 pub returns-in_err-script : goal.returns-in_err-script
 returns-in_err-script c =
     let t = turn c.loop-line.yielded c.loop-line.yielded_by (pieces c.args.text.now)
-    (YieldsList-at (cc) (YieldsList-from_enumerate (YieldsList-at c.enumerate-line-items.ensures.source (YieldsList-from_slice_split _ feed c.args.text.now c.split.ensures.rest c.split.ensures.done c.split.ensures.closure (λ x b q k. search (rules, tests)))) c.enumerate-line-items.ensures.count))
+    (numbered c.args.text.now c.split.ensures.rest c.split.ensures.done c.split.ensures.closure (λ x b q k. search (rules, tests)) c.enumerate-line-items.ensures.source c.enumerate-line-items.ensures.count (cc))
     _ _ (c.in-Some.line, c.in-Some.now) c.in-Some.is c.next.ensures.steps in
     let r : c.from_residual.result ≡ Err c.in_err-script.field-0.0 = search rules in
     rw r (refused c.in_err-script.field-0.0 (feeds c.args.text.now) c.in-Some.line c.loop-line.script c.in-Some.now.now (drop (length c.loop-line.yielded + 1) (pieces c.args.text.now)) _
@@ -20,7 +18,7 @@ returns-in_err-script c =
 pub loop-line-preserved : goal.loop-line-preserved
 loop-line-preserved c =
     let t = turn c.loop-line.yielded c.loop-line.yielded_by (pieces c.args.text.now)
-    (YieldsList-at (cc) (YieldsList-from_enumerate (YieldsList-at c.enumerate-line-items.ensures.source (YieldsList-from_slice_split _ feed c.args.text.now c.split.ensures.rest c.split.ensures.done c.split.ensures.closure (λ x b q k. search (rules, tests)))) c.enumerate-line-items.ensures.count))
+    (numbered c.args.text.now c.split.ensures.rest c.split.ensures.done c.split.ensures.closure (λ x b q k. search (rules, tests)) c.enumerate-line-items.ensures.source c.enumerate-line-items.ensures.count (cc))
     _ _ (c.in-Some.line, c.in-Some.now) c.in-Some.is c.next.ensures.steps in
     record {
       can = search rules;
@@ -34,7 +32,7 @@ pub returns : goal.returns
 unfolding script_from orders_from
 returns c =
     let o = over c.loop-line.yielded c.loop-line.yielded_by (pieces c.args.text.now)
-    (YieldsList-at (cc) (YieldsList-from_enumerate (YieldsList-at c.enumerate-line-items.ensures.source (YieldsList-from_slice_split _ feed c.args.text.now c.split.ensures.rest c.split.ensures.done c.split.ensures.closure (λ x b q k. search (rules, tests)))) c.enumerate-line-items.ensures.count))
+    (numbered c.args.text.now c.split.ensures.rest c.split.ensures.done c.split.ensures.closure (λ x b q k. search (rules, tests)) c.enumerate-line-items.ensures.source c.enumerate-line-items.ensures.count (cc))
     _ _ c.in-None.is c.next.ensures.steps in
     let i = rw o at c.loop-line.invariant.says in
     let e = reads_pieces c.args.text.now in
