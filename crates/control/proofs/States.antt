@@ -88,7 +88,7 @@ module _ {m : Machine} {ts : List Target} {w : Work} {p : Place} (k : IsLoaded m
 
   -- what an event leaves, at the place where it leads
   pub loaded : (e : Event) (v : Work) (q : Place) → v ≡ happens m ts e w → q ≡ place ts v.motion → IsLoaded m ts v q
-  loaded e v q h i = record { fits = k.fits; close = k.close; reached = reached_on m ts w v e k.reached h; stood = i }
+  loaded e v q h i = record { fits = k.fits; close = k.close; few = k.few; reached = reached_on m ts w v e k.reached h; stood = i }
 
   -- one that is no tick leaves the place as it was
   pub loaded_still : (e : Event) (v : Work) → (e ≡ Tick → ⊥) → v ≡ happens m ts e w → IsLoaded m ts v p
@@ -118,19 +118,20 @@ module _ {m : Machine} {ts : List Target} {w : Work} {p : Place} (k : IsLoaded m
   stays : (us : List Target) → place ts w.motion ≡ place (ts ++ us) w.motion
   stays us = bounds.place_more m ts us w.motion (held_safe k)
 
-  pub pushed : (t : Target) (b : Bool) (us : List Target) → within 1000000000 t.to ≡ true → us ≡ cond b (ts ++ t ∷ []) ts → IsLoaded m us w p
-  pushed t true us n e = rw e (record {
+  pub pushed : (t : Target) (b : Bool) (us : List Target) → within 1000000000 t.to ≡ true → us ≡ cond b (ts ++ t ∷ []) ts → length us < 2 ^ 63 → IsLoaded m us w p
+  pushed t true us n e l = rw e (record {
     fits = k.fits;
     close = bounds.near_push ts t k.close n;
+    few = rw e at l;
     reached = reached_more m ts (t ∷ []) w k.fits k.reached;
     stood = k.stood ∙ stays (t ∷ []);
   })
-  pushed t false us n e = rw e k
+  pushed t false us n e l = rw e k
 
   -- a tick toward t, the first of the targets still to go
   module _ (t : Target) (us : List Target) (e : todo ts w.motion ≡ t ∷ us) where
-    pub slow_toward : length ts < 2 ^ 64 → Slow m w.motion
-    slow_toward l = bounds.slow_first m ts w.motion k.fits k.close (held_safe k) l t us e
+    pub slow_toward : Slow m w.motion
+    slow_toward = bounds.slow_first m ts w.motion k.fits k.close (held_safe k) (omega (arith, k.few)) t us e
 
     module _ (v : Work) (h : v ≡ does m (t ∷ []) Tick w) where
       pub ticks : v ≡ happens m ts Tick w

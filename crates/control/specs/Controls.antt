@@ -11,7 +11,7 @@
 --   Happened c e d   the event e leaves d of the control c
 --   Few c d          d is no more than a tick of c gives at the most
 --   Added t r c d    an added target t that is answered by r leaves d of the control c
-use Rattle.std.specs.Prelude.{◌≡◌, ℕ, ◌≤◌, max, Bool, true, false, cond, ◌&&◌, List, [], ◌∷◌, ◌++◌, pos, Ok, Err, Result, nat_le, unsigned_abs}
+use Rattle.std.specs.Prelude.{◌≡◌, ℕ, ◌^◌, ◌<◌, ◌≤◌, max, Bool, true, false, cond, ◌&&◌, List, [], ◌∷◌, ◌++◌, length, pos, Ok, Err, Result, nat_le, unsigned_abs}
 use Rattle.std.specs.List.{list_all}
 use Rattle.refusal.specs.declared.Refusal.{Refusal}
 use Rattle.refusal.specs.declared.Refusal.TheVariants.{Machine as Unfit, Lent}
@@ -61,10 +61,12 @@ pub record State : Type 0 where
   pub targets : List Target
   pub work : Work
 
--- what holds of a control that is at p: its machine can move, its targets are near, and some row of events led to its work
+-- what holds of a control that is at p: its machine can move, its targets are near and fewer than 2^63, as a vector's items
+-- are, and some row of events led to its work
 pub record IsLoaded (m : Machine) (ts : List Target) (w : Work) (p : Place) : Type 0 where
   pub fits : fit m ≡ true
   pub close : near ts ≡ true
+  pub few : length ts < 2 ^ 63
   pub reached : Reached m ts w
   pub stood : p ≡ place ts w.motion
 

@@ -103,7 +103,8 @@ impl Control {
     pub fn add(&mut self, target: Target) -> Result<(), Failed<Refusal>>
         ensures { Added target result self.old self.new }
     {
-        if !target.is_near() {
+        let near = target.is_near();
+        if !near {
             return Err(Refusal::Lent(LentPart::Place).into());
         }
         self.targets.push(target)?;

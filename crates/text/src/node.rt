@@ -24,8 +24,7 @@ impl From<Node> for [i64; 4] {
     fn from(node: Node) -> [i64; 4] {
         match node {
             Node::Nothing => [0, 0, 0, 0],
-            Node::Go(Move::Absolute, x, y, speed) => [1, x, y, speed],
-            Node::Go(Move::Incremental, x, y, speed) => [2, x, y, speed],
+            Node::Go(m, x, y, speed) => [m.kind(), x, y, speed],
             Node::Next(so_far, this) => [3, so_far, this, 0],
             Node::Lines(Block::Repeat(n), body) => [4, n, body, 0],
             Node::Lines(Block::Offset(x, y), body) => [5, x, y, body],

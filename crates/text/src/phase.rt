@@ -1,9 +1,23 @@
 // What the next word of a line may be, with the numbers of the line so far.
+ghost use Rattle.std.specs.Prelude.{◌≡◌};
+ghost use Rattle.text.specs.Nodes.{move_kind};
 
 #[derive(Clone, Copy)]
 pub enum Move {
     Absolute,
     Incremental,
+}
+
+impl Move {
+    // The kind of its node.
+    pub fn kind(self) -> i64
+        ensures { result ≡ move_kind self }
+    {
+        match self {
+            Move::Absolute => 1,
+            Move::Incremental => 2,
+        }
+    }
 }
 
 // Lines in braces: so many times, or in a frame.

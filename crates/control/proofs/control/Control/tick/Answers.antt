@@ -1,4 +1,4 @@
-use Rattle.std.proofs.Common.{◌≡◌, suc, ◌∷◌, length, ◌≤◌, drop, sym, ap, ◌∙◌, arith, drop-cons}
+use Rattle.std.proofs.Common.{◌≡◌, suc, ◌∷◌, length, ◌≤◌, drop, sym, ap, ◌∙◌, drop-cons}
 use Rattle.pulses.proofs.Follows.{still}
 use Rattle.program.specs.declared.target.Target.{Target}
 use Rattle.work.specs.Works.{todo}
@@ -32,7 +32,7 @@ returns-in_default c =
 
 pub tick_toward-work-requires : goal.tick_toward-work-requires
 tick_toward-work-requires c =
-    record { slow = slow_toward c.self.invariant _ _ (first (goal.at.tick_toward-work-requires c).In-Some) (omega (arith, c.self.inside.targets.ok.0)) }
+    record { slow = slow_toward c.self.invariant _ _ (first (goal.at.tick_toward-work-requires c).In-Some) }
 
 pub place_after-at-requires : goal.place_after-at-requires
 place_after-at-requires c =
