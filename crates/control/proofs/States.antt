@@ -16,7 +16,7 @@ use Rattle.work.proofs.Ticks.{begins, lands_after}
 use Rattle.work.proofs.Safety.{Safe, safe_after}
 use Rattle.pulses.specs.declared.Pulses.{Pulses}
 use Rattle.pulses.specs.Motors.{between, pulses}
-use Rattle.control.specs.Controls.{in_range, machine_of, fit, origin, Reached, State, IsLoaded, Happened, Few}
+use Rattle.control.specs.Controls.{in_range, machine_of, near, fit, origin, Reached, State, IsLoaded, Loaded, Happened, Few}
 use Rattle.control.proofs.Bounds as bounds
 
 safe : (m : Machine) (ts : List Target) (w : Work) → fit m ≡ true → Reached m ts w → Safe m origin ts w.motion
@@ -54,10 +54,10 @@ reached_more : (m : Machine) (ts us : List Target) (w : Work) → fit m ≡ true
 reached_more m ts us w f k = subst (Reached m (ts ++ us)) (sym k.is) (more_row m ts us (bounds.range m f).0 k.events)
 
 -- the beginning, and a machine that passed its checks
-pub begins_there : (ts : List Target) (w : Work) → w ≡ begun origin → origin ≡ place ts w.motion
+begins_there : (ts : List Target) (w : Work) → w ≡ begun origin → origin ≡ place ts w.motion
 begins_there ts w e = sym (ap (λ (v : Work). place ts v.motion) e ∙ begins (begun origin).motion ts refl)
 
-pub reached_first : (m : Machine) (ts : List Target) (w : Work) → w ≡ begun origin → Reached m ts w
+reached_first : (m : Machine) (ts : List Target) (w : Work) → w ≡ begun origin → Reached m ts w
 unfolding row
 reached_first m ts w e = record { events = []; is = e }
 
@@ -70,8 +70,12 @@ pub record Taken (a t : ℕ) (m : Machine) : Type 0 where
 pub taken : (a t : ℕ) (m : Machine) → Ok m ≡ machine_of a t → Taken a t m
 taken a t m e = record { is = grind arith; changes = grind arith; moves = grind arith }
 
-pub fit_of : (a t : ℕ) (m : Machine) → Ok m ≡ machine_of a t → fit m ≡ true
+fit_of : (a t : ℕ) (m : Machine) → Ok m ≡ machine_of a t → fit m ≡ true
 fit_of a t m e = let k = taken a t m e in rw (k.is, k.changes, k.moves)
+
+-- a control at the beginning
+pub loaded_first : (a t : ℕ) (m : Machine) → Ok m ≡ machine_of a t → (ts : List Target) → near ts ≡ true → length ts < 2 ^ 63 → (w : Work) → w ≡ begun origin → IsLoaded m ts w origin
+loaded_first a t m e ts n l w b = record { fits = fit_of a t m e; close = n; few = l; reached = reached_first m ts w b; stood = begins_there ts w b }
 
 abbrev state : Machine → List Target → Work → State
 state m ts w = record { machine = m; targets = ts; work = w }
@@ -86,6 +90,10 @@ module _ {m : Machine} {ts : List Target} {w : Work} {p : Place} (k : IsLoaded m
   pub promised : Promise m origin ts w
   promised = of_safe m origin ts w (bounds.range m k.fits).0 held_safe
 
+  -- as callers see it, at the place where its work is
+  pub seen : Loaded (state m ts w)
+  seen = record { fits = k.fits; close = k.close; few = k.few; reached = k.reached; stood = refl }
+
   -- what an event leaves, at the place where it leads
   pub loaded : (e : Event) (v : Work) (q : Place) → v ≡ happens m ts e w → q ≡ place ts v.motion → IsLoaded m ts v q
   loaded e v q h i = record { fits = k.fits; close = k.close; few = k.few; reached = reached_on m ts w v e k.reached h; stood = i }
@@ -98,7 +106,7 @@ module _ {m : Machine} {ts : List Target} {w : Work} {p : Place} (k : IsLoaded m
   pub happened : (e : Event) (v : Work) → v ≡ happens m ts e w → Happened (state m ts w) e (state m ts v)
   happened e v h =
       let l = loaded k e v (place ts v.motion) h refl in
-      record { machine = refl; targets = refl; work = h; promise = promised l; near = near_at l }
+      record { machine = refl; targets = refl; work = h; promise = promised l; loaded = l; near = near_at l }
 
   -- a tick's pulses, from the places before and after it
   pub gives : (v : Work) (q : Place) (d : Pulses) → v ≡ happens m ts Tick w → q ≡ place ts v.motion → d ≡ between p q → d ≡ pulses m ts Tick w

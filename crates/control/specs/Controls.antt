@@ -79,6 +79,7 @@ pub record Happened (c : State) (e : Event) (d : State) : Type 0 where
   pub targets : d.targets ≡ c.targets
   pub work : d.work ≡ happens c.machine c.targets e c.work
   pub promise : Promise c.machine origin c.targets d.work
+  pub loaded : Loaded d
   -- it is not far from 0, 0, so that whoever adds up its pulses stays within an i64
   pub near : Within 4000000000 (place d.targets d.work.motion)
 

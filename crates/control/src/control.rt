@@ -1,6 +1,6 @@
 // A loaded control. What holds of it in every state: its machine can move, its targets are near, and its work is what
 // some row of events leads to from the beginning.
-ghost use Rattle.std.specs.Prelude.{◌≡◌, ◌≢◌, length, Ok, Err, MatchResult, nat_le};
+ghost use Rattle.std.specs.Prelude.{◌≡◌, ◌≢◌, length, Ok, Err, IfOk, MatchResult, nat_le};
 ghost use Rattle.geometry.specs.Places.{Within};
 ghost use Rattle.control.specs.Controls.{near, origin, load_of, Loaded, Happened, Added, Few};
 ghost use Rattle.pulses.specs.Motors.{pulses};
@@ -37,7 +37,8 @@ impl Model for Control {
 impl Control {
     // A control at the beginning, at 0, 0, with its machine and targets checked.
     pub fn load(change: u64, top: u64, targets: Vec<Target>) -> Result<Control, Refusal>
-        ensures { MatchResult result (λ c. (load_of change top targets.items ≡ Ok c.machine) × (c.targets ≡ targets.items) × (c.work ≡ begun origin)) (λ e. load_of change top targets.items ≡ Err e) }
+        ensures value { MatchResult result (λ c. (load_of change top targets.items ≡ Ok c.machine) × (c.targets ≡ targets.items) × (c.work ≡ begun origin)) (λ e. load_of change top targets.items ≡ Err e) }
+        ensures loaded { IfOk result Loaded }
     {
         let machine = machine(change, top)?;
         if !all_near(&targets) {
@@ -101,13 +102,16 @@ impl Control {
 
     // One target more, behind the others.
     pub fn add(&mut self, target: Target) -> Result<(), Failed<Refusal>>
-        ensures { Added target result self.old self.new }
+        ensures added { Added target result self.old self.new }
+        ensures loaded { Loaded self.new }
     {
+        // Looked at first, so that what holds of the control is known where a target is refused, too.
+        let targets = &mut self.targets;
         let near = target.is_near();
         if !near {
             return Err(Refusal::Lent(LentPart::Place).into());
         }
-        self.targets.push(target)?;
+        targets.push(target)?;
         Ok(())
     }
 
@@ -122,6 +126,7 @@ impl Control {
     // Where it is.
     pub fn place(&self) -> Place
         ensures at { result ≡ place self.now.targets self.now.work.motion }
+        ensures loaded { Loaded self.now }
         ensures near { Within 4000000000 result }
     {
         self.at
