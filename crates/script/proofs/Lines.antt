@@ -1,5 +1,5 @@
 -- A script's lines are the pieces between its line feeds: one that is empty and last says nothing.
-use Rattle.std.proofs.Common.{◌≡◌, ℕ, ◌+◌, ◌<◌, Bool, false, eqb, List, [], ◌∷◌, ◌++◌, length, drop, Some, None, Err, Option, Result, All, ◌⊎◌, inl, inr, sym, refl, ap, ◌∙◌, arith, append_assoc, append-nil}
+use Rattle.std.proofs.Common.{◌≡◌, ℕ, ◌+◌, ◌<◌, Bool, false, is_ok, eqb, List, [], ◌∷◌, ◌++◌, length, drop, Some, None, Err, Option, Result, All, ◌⊎◌, inl, inr, sym, refl, ap, ◌∙◌, arith, rules, append_assoc, append-nil}
 use Rattle.std.specs.declared.iter.Enumerate.{Enumerate}
 use Rattle.std.specs.declared.slice.Split.{Split}
 use Rattle.std.specs.Fn.{CalledAt}
@@ -21,8 +21,8 @@ use Rattle.script.specs.declared.script.Order.{Order}
 use Rattle.script.specs.Words.{words_after, words, lines_after, lines}
 use Rattle.word.specs.Lines.{feeds}
 use Rattle.script.specs.Orders.{order_of, machine_of}
-use Rattle.script.specs.Scripts.{by_words, or_line, told_by, Told, Unread, orders_from, script_from, reads}
-use Rattle.script.specs.Refusals.{goes_on, Said, Reading}
+use Rattle.script.specs.Scripts.{by_words, or_line, told_by, Told, Unread, orders_from, script_from, says_machine, reads}
+use Rattle.script.specs.Refusals.{goes_on, has_machine, Stops, Reading, Behind}
 use Rattle.refusal.specs.declared.failed.Failed.{Failed}
 use Rattle.refusal.specs.declared.failed.Failed.TheVariants.{Refused, Memory}
 use Rattle.script.specs.declared.fault.ScriptError.{ScriptError}
@@ -68,11 +68,28 @@ reads_pieces bs = elim (split_lines [] bs (All-nil _)) [
   | inr e ↦ ap (script_from (feeds bs) 0) e ∙ script_end (feeds bs) 0 (lines bs)
 ]
 
+machine_end : (ls : List (List ℕ)) → says_machine (ls ++ [] ∷ []) ≡ says_machine ls
+unfolding says_machine words_after
+machine_end [] = refl
+machine_end (l ∷ ls) = λ i. by_words (words l) (machine_end ls i) (λ k ws. is_ok (machine_of k ws))
+
+pub machine_pieces : (bs : List ℕ) → has_machine None (pieces bs) ≡ says_machine (lines bs)
+machine_pieces bs = elim (split_lines [] bs (All-nil _)) [
+  | inl e ↦ ap says_machine e
+  | inr e ↦ ap says_machine e ∙ machine_end (lines bs)
+]
+
 -- what a line that can't be read makes of the script
-pub refused : (f : Failed ScriptError) (e n : ℕ) (s : Option Script) (l : List ℕ) (ls : List (List ℕ)) (r : Result Told Unread) → goes_on e n s (l ∷ ls) ≡ r → Said n s l (Err f) → Reading r (Err f)
+pub refused : (f : Failed ScriptError) (e n : ℕ) (s : Option Script) (l : List ℕ) (ls : List (List ℕ)) (r : Result Told Unread) → goes_on e n s (l ∷ ls) ≡ r → Stops n s l f → Reading r (Err f)
 refused (Refused (Text line wrong)) e n s l ls r g h = sym g ∙ h e ls
 refused (Refused (Number fault)) e n s l ls r g h = absurd h
 refused Memory e n s l ls r g h = tt
+
+-- and that it tells want of memory only behind a machine
+pub behind : (f : Failed ScriptError) (n : ℕ) (s : Option Script) (l : List ℕ) (ls ms : List (List ℕ)) → has_machine s ls ≡ says_machine ms → Stops n s l f → Behind ms (Err f)
+behind (Refused e) n s l ls ms g h = tt
+behind Memory n None l ls ms g h = absurd (search (h, rules))
+behind Memory n (Some s) l ls ms g h = sym g
 
 -- the pieces with their numbers, by what `split` and `enumerate` say
 pub numbered : {F : Type 0} {g : Mut F (Bor ℕ × Unit {0}) Bool} {f : F} {cut : Split ℕ F} {counted it : Enumerate (Split ℕ F)} (bs : List ℕ)
