@@ -5,6 +5,7 @@ ghost use Rattle.script.specs.Words.{lines};
 ghost use Rattle.script.specs.Refusals.{Answers, Behind, Reading, Said, told};
 
 use crate::fault::{Expected, Fault, ScriptError, Wrong};
+use crate::lines::Lines;
 use crate::order::{machine, order};
 use crate::script::{Machine, Order, Script};
 use crate::words::Words;
@@ -29,7 +30,7 @@ fn told(heap: Global, text: &[u8]) -> Result<Script, Failed<ScriptError<'_>>>
     ensures memory { Behind (lines text.now) result }
 {
     let mut script = None;
-    for (line, now) in text.split(|b| *b == b'\n').enumerate() {
+    for (line, now) in Lines::of(text).enumerate() {
         with_line(heap, &mut script, line as u64, now)?;
     }
     script.ok_or_else(|| {
