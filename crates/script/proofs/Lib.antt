@@ -1,3 +1,3 @@
 mod Firsts
-mod Lines
 mod Scans
+mod Turns

@@ -1,8 +1,9 @@
 -- A line without the gaps that it begins with, and its first word.
-use Rattle.std.proofs.Common.{◌≡◌, ℕ, suc, ◌+◌, true, false, eqb, List, [], ◌∷◌, ◌++◌, length, take, drop, sym, refl, ◌∙◌, inl, inr, append_assoc, append-nil, arith}
-use Rattle.std.specs.List.{prefix_len}
-use Rattle.std.proofs.lemmas.Bool.{cases_Bool, eqb-true, eqb-false}
-use Rattle.script.specs.Words.{gap, letter, begun, words_after, words}
+use Rattle.std.proofs.Common.{◌≡◌, ℕ, suc, ◌+◌, ◌<◌, ◌≤◌, true, false, eqb, ltb, ◌==◌, Some, None, rules, List, [], ◌∷◌, ◌++◌, length, take, drop, sym, refl, ◌∙◌, inl, inr, append_assoc, append-nil, length-append, drop-drop, arith}
+use Rattle.std.specs.List.{prefix_len, position_or_len, position_from}
+use Rattle.std.proofs.lemmas.Bool.{cases_Bool, eqb-true, eqb-false, ltb-true, ltb-false}
+use Rattle.std.proofs.lemmas.Iterator.Adapters.{position_from-zero}
+use Rattle.script.specs.Words.{gap, letter, begun, words_after, words, lines_after, lines}
 
 skipped : (bs : List ℕ) → words (drop (prefix_len gap bs) bs) ≡ words bs
 unfolding words_after
@@ -51,3 +52,68 @@ module _ (bs from rest : List ℕ) (e : from ≡ drop (prefix_len gap bs) bs) (g
       let r : rest ≡ [] = rw (g, z) refl in
       (first_word [] f ∙ rw r refl, rw r refl)
   no_word (c ∷ cs) f n = absurd (omega (arith, eqb-true (length (c ∷ cs)) 0 n))
+
+-- where the first line feed is, a line ends
+abbrev pub first_feed : List ℕ → ℕ
+first_feed bs = position_or_len (λ b. eqb b 10) bs
+
+pub line_cut : (l bs : List ℕ) → first_feed bs < length bs → lines_after l bs ≡ (l ++ take (first_feed bs) bs) ∷ lines (drop (first_feed bs + 1) bs)
+unfolding lines_after
+line_cut l [] h = absurd (omega arith)
+line_cut l (b ∷ bs) h =
+    let n : 1 + first_feed bs ≡ suc (first_feed bs) = omega arith in
+    let m : suc (first_feed bs) + 1 ≡ suc (first_feed bs + 1) = omega arith in
+    elim (cases_Bool (eqb b 10)) [
+      | inl e ↦ rw (e, append-nil) refl
+      | inr e ↦ rw (e, n, m) (line_cut (l ++ b ∷ []) bs (let g = rw (e, n) at h in omega arith) ∙ rw append_assoc refl)
+    ]
+
+pub line_last : (l bs : List ℕ) → length bs ≤ first_feed bs → lines_after l bs ≡ begun (l ++ bs) []
+unfolding lines_after
+line_last l [] h = rw append-nil refl
+line_last l (b ∷ bs) h =
+    let n : 1 + first_feed bs ≡ suc (first_feed bs) = omega arith in
+    elim (cases_Bool (eqb b 10)) [
+      | inl e ↦ absurd (let g = rw e at h in omega arith)
+      | inr e ↦ rw e (line_last (l ++ b ∷ []) bs (let g = rw (e, n) at h in omega arith) ∙ rw append_assoc refl)
+    ]
+
+pub feed_some : (bs : List ℕ) (i : ℕ) → Some i ≡ position_from (λ b. b == 10) 0 bs → (i < length bs) × (lines bs ≡ take i bs ∷ lines (drop (i + 1) bs))
+feed_some bs i e =
+    let p = position_from-zero (λ b. b == 10) bs in
+    elim (cases_Bool (ltb (first_feed bs) (length bs))) [
+      | inl t ↦ let s : Some i ≡ Some (first_feed bs) = e ∙ sym (rw t at p) in let k : i ≡ first_feed bs = search (s, rules) in rw k (ltb-true _ _ t, line_cut [] bs (ltb-true _ _ t))
+      | inr f ↦ let s : Some i ≡ None = e ∙ sym (rw f at p) in absurd (search (s, rules))
+    ]
+
+pub feed_cut : (bs line behind : List ℕ) (i : ℕ) → line ≡ take i bs → behind ≡ drop i bs → Some i ≡ position_from (λ b. b == 10) 0 bs → lines bs ≡ line ∷ lines (drop 1 behind)
+feed_cut bs line behind i e f g = let s = feed_some bs i g in rw (e, f, drop-drop) s.1
+
+-- where there is none, all is one line
+feed_none : (bs : List ℕ) → None ≡ position_from (λ b. b == 10) 0 bs → lines bs ≡ begun bs []
+feed_none bs e =
+    let p = position_from-zero (λ b. b == 10) bs in
+    elim (cases_Bool (ltb (first_feed bs) (length bs))) [
+      | inl t ↦ let s : None ≡ Some (first_feed bs) = e ∙ sym (rw t at p) in absurd (search (s, rules))
+      | inr f ↦ line_last [] bs (ltb-false _ _ f)
+    ]
+
+pub one_line : (bs : List ℕ) → None ≡ position_from (λ b. b == 10) 0 bs → false ≡ (length bs == 0) → lines bs ≡ bs ∷ lines []
+unfolding lines_after
+one_line [] e n = absurd (search (n, rules))
+one_line (b ∷ bs) e n = feed_none (b ∷ bs) e
+
+pub no_line : (bs : List ℕ) → true ≡ (length bs == 0) → lines bs ≡ []
+unfolding lines_after
+no_line [] n = refl
+no_line (b ∷ bs) n = absurd (omega (arith, eqb-true (length (b ∷ bs)) 0 (sym n)))
+
+pub lines_fit : (l bs : List ℕ) → length (lines_after l bs) ≤ length l + length bs
+unfolding lines_after
+lines_fit [] [] = omega arith
+lines_fit (c ∷ cs) [] = omega arith
+lines_fit l (b ∷ bs) =
+    elim (cases_Bool (eqb b 10)) [
+      | inl e ↦ rw e (omega (arith, lines_fit [] bs))
+      | inr e ↦ rw e (omega (arith, lines_fit (l ++ b ∷ []) bs, length-append l (b ∷ [])))
+    ]

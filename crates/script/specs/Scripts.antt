@@ -6,6 +6,7 @@
 --   orders_from n os ls   the orders os, with those of the lines ls behind them, of which the first is line n
 --   told_by m os          the script of a machine and its orders
 --   script_from e n ls    the script of such lines, the first with a word being the machine's; line e where none has
+--   says_machine ls       whether the first line with a word says a machine; not where none has one
 --   reads bs              what a script says, or the line that can't be read, and why
 --   or_else a b           the fault a, or b where there is none
 --   unless b f            the fault f where b does not hold
@@ -13,7 +14,7 @@
 --   first f os            the first fault that f finds in the orders os
 --   in_limits n           whether a change or a top speed is from 1 to 1,000,000
 --   unfit t               the first number out of its limits: the change, the top speed, a place, the knob
-use Rattle.std.specs.Prelude.{ℕ, ◌+◌, Bool, cond, ◌&&◌, List, [], ◌∷◌, ◌++◌, Some, None, Ok, Err, Option, Result, nat_le}
+use Rattle.std.specs.Prelude.{ℕ, ◌+◌, Bool, cond, ◌&&◌, List, [], ◌∷◌, ◌++◌, Some, None, Ok, Err, Option, Result, nat_le, false, is_ok}
 use Rattle.geometry.specs.Places.{within}
 use Rattle.script.specs.declared.script.Machine.{Machine}
 use Rattle.script.specs.declared.script.Order.{Order}
@@ -56,6 +57,10 @@ script_from e n [] = Err (record { line = e; word = record { found = None; expec
 script_from e n (l ∷ ls) =
     by_words (words l) (script_from e (n + 1) ls)
     (λ k ws. or_line (machine_of k ws) n (λ m. told_by m (orders_from (n + 1) [] ls)))
+
+unfoldable pub says_machine : List (List ℕ) → Bool
+says_machine [] = false
+says_machine (l ∷ ls) = by_words (words l) (says_machine ls) (λ k ws. is_ok (machine_of k ws))
 
 abbrev pub reads : List ℕ → Result Told Unread
 reads bs = script_from (feeds bs) 0 (lines bs)

@@ -11,6 +11,7 @@
 #![tactic(auto)]
 
 mod fault;
+mod lines;
 mod order;
 mod reader;
 mod script;

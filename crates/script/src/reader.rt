@@ -1,9 +1,11 @@
 // A script, line by line, and then its numbers.
 ghost use Rattle.std.specs.Prelude.{◌≡◌, ◌+◌, ◌^◌, ◌<◌, None, Some, MatchResult};
 ghost use Rattle.script.specs.Scripts.{reads, far, beyond, in_limits, unfit};
-ghost use Rattle.script.specs.Refusals.{Answers, Reading, Said, told};
+ghost use Rattle.script.specs.Words.{lines};
+ghost use Rattle.script.specs.Refusals.{Answers, Behind, Reading, Said, told};
 
 use crate::fault::{Expected, Fault, ScriptError, Wrong};
+use crate::lines::Lines;
 use crate::order::{machine, order};
 use crate::script::{Machine, Order, Script};
 use crate::words::Words;
@@ -14,7 +16,8 @@ use word::line_feeds;
 
 // Reads a script whole, and checks its numbers.
 pub fn read(heap: Global, text: &[u8]) -> Result<Script, Failed<ScriptError<'_>>>
-    ensures { Answers (reads text.now) result }
+    ensures script { Answers (reads text.now) result }
+    ensures memory { Behind (lines text.now) result }
 {
     let script = told(heap, text)?;
     check(&script)?;
@@ -23,11 +26,12 @@ pub fn read(heap: Global, text: &[u8]) -> Result<Script, Failed<ScriptError<'_>>
 
 // What a script says, whatever its numbers.
 fn told(heap: Global, text: &[u8]) -> Result<Script, Failed<ScriptError<'_>>>
-    ensures { Reading (reads text.now) result }
+    ensures script { Reading (reads text.now) result }
+    ensures memory { Behind (lines text.now) result }
 {
     let mut script = None;
-    for (line, now) in text.split(|b| *b == b'\n').enumerate() {
-        script = with_line(heap, script, line as u64, now)?;
+    for (line, now) in Lines::of(text).enumerate() {
+        with_line(heap, &mut script, line as u64, now)?;
     }
     script.ok_or_else(|| {
         let wrong = Wrong {
@@ -38,34 +42,34 @@ fn told(heap: Global, text: &[u8]) -> Result<Script, Failed<ScriptError<'_>>>
     })
 }
 
-// A script with one line more: none as long as no line has had a word.
-#[tactic(auto, unfolding(crate::specs::Scripts::script_from, crate::specs::Scripts::orders_from))]
+// Puts one line more to a script: none as long as no line has had a word. A blank line leaves it where it is.
+#[tactic(auto, unfolding(crate::specs::Scripts::script_from, crate::specs::Scripts::orders_from, crate::specs::Scripts::says_machine))]
 fn with_line<'a>(
     heap: Global,
-    script: Option<Script>,
+    script: &mut Option<Script>,
     line: u64,
     now: &'a [u8],
-) -> Result<Option<Script>, Failed<ScriptError<'a>>>
-    ensures { Said line script now.now result }
+) -> Result<(), Failed<ScriptError<'a>>>
+    ensures { Said line script.old now.now script.new result }
 {
     let mut words = Words::of(now);
     let Some(key) = words.next() else {
-        return Ok(script);
+        return Ok(());
     };
     match script {
         None => {
             let machine = machine(key, words).map_err(|wrong| ScriptError::Text(line, wrong))?;
-            Ok(Some(Script {
+            *script = Some(Script {
                 machine,
                 orders: Vec::new(heap),
-            }))
+            });
         }
-        Some(mut script) => {
+        Some(script) => {
             let order = order(key, words).map_err(|wrong| ScriptError::Text(line, wrong))?;
             script.orders.push(order)?;
-            Ok(Some(script))
         }
     }
+    Ok(())
 }
 
 // Whether every number is in its limits; or the first that is not.

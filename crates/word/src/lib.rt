@@ -11,7 +11,7 @@ ghost use Rattle.word.specs.Numbers.{number_of, magnitude, up, down};
 pub fn line_feeds(bytes: &[u8]) -> u64
     ensures { result ≡ feeds bytes.now }
 {
-    bytes.iter().filter(|b| **b == b'\n').count() as u64
+    bytes.iter().map(|b| u64::from(*b == b'\n')).sum()
 }
 
 // A number is digits, with at most one `-` before them. However long, it is cut to the ends of i64.
