@@ -13,9 +13,20 @@ use program::Target;
 use pulses::Pulses;
 use std::alloc::AllocError;
 
-// A number without a sign. Most pulses have one digit, which is pushed at once: making the buffer that longer ones are
-// formatted in, and reading it back, takes half as long again. `write!` takes four times as long for a line. The digits
-// are pushed one by one, since so few are copied no faster together.
+// The digits of a number: `write!` takes four times as long for a line. They are pushed one by one, since so few are
+// copied no faster together. It stands apart, so that the numbers of one digit need no call.
+#[inline(never)]
+fn put_digits(out: &mut Vec<u8>, n: u64) -> Result<(), AllocError>
+    ensures { OnOk result (out.new.items ≡ out.old.items ++ decimal n) }
+{
+    for digit in Buffer::new().format(n).as_bytes() {
+        out.push(*digit)?;
+    }
+    Ok(())
+}
+
+// A number without a sign. Most pulses have one digit, which is pushed at once: the buffer that a longer number is
+// formatted in would cost more than the digit.
 #[tactic(auto, using(std::proofs::lemmas::Fmt::decimal_digit))]
 fn put_size(out: &mut Vec<u8>, n: u64) -> Result<(), AllocError>
     ensures { OnOk result (out.new.items ≡ out.old.items ++ decimal n) }
@@ -24,10 +35,7 @@ fn put_size(out: &mut Vec<u8>, n: u64) -> Result<(), AllocError>
         out.push(b'0' + n as u8)?;
         return Ok(());
     }
-    for digit in Buffer::new().format(n).as_bytes() {
-        out.push(*digit)?;
-    }
-    Ok(())
+    put_digits(out, n)
 }
 
 // A number, with its sign if it is below 0.
@@ -40,7 +48,8 @@ fn put_number(out: &mut Vec<u8>, n: i64) -> Result<(), AllocError>
     put_size(out, n.unsigned_abs())
 }
 
-// The pulses of an axis, with their sign.
+// The pulses of an axis, with their sign; inlined, since two are put in each tick.
+#[inline]
 #[tactic(auto, using(crate::proofs::Signs::above, crate::proofs::Signs::not_above, std::proofs::lemmas::Grind::common_steps))]
 fn put_pulse(out: &mut Vec<u8>, n: i64) -> Result<(), AllocError>
     ensures { OnOk result (out.new.items ≡ out.old.items ++ pulse_text n) }
