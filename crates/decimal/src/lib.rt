@@ -3,20 +3,21 @@
 
 #![tactic(auto)]
 
-ghost use Rattle.std.specs.Prelude.{◌≡◌, ◌++◌, codes, OnOk};
+ghost use Rattle.std.specs.Prelude.{◌≡◌, ◌++◌, codes, decimal, OnOk};
 ghost use Rattle.std.specs.Fmt.{signed_decimal};
 ghost use Rattle.decimal.specs.Lines.{pulse_text, pulses_line, place_line, target_line};
 
 use geometry::Place;
-use itoa::{Buffer, Integer};
+use itoa::Buffer;
 use program::Target;
 use pulses::Pulses;
 use std::alloc::AllocError;
 
-// A number, with its sign if it is below 0: `write!` takes four times as long for a line. Its digits are pushed one by
-// one, since so few are copied no faster together.
-fn put_number<I: Integer>(out: &mut Vec<u8>, n: I) -> Result<(), AllocError>
-    ensures { OnOk result (out.new.items ≡ out.old.items ++ I.text n) }
+// The digits of a number: `write!` takes four times as long for a line. They are pushed one by one, since so few are
+// copied no faster together. It stands apart, so that the numbers of one digit need no call.
+#[inline(never)]
+fn put_digits(out: &mut Vec<u8>, n: u64) -> Result<(), AllocError>
+    ensures { OnOk result (out.new.items ≡ out.old.items ++ decimal n) }
 {
     for digit in Buffer::new().format(n).as_bytes() {
         out.push(*digit)?;
@@ -24,7 +25,31 @@ fn put_number<I: Integer>(out: &mut Vec<u8>, n: I) -> Result<(), AllocError>
     Ok(())
 }
 
-// The pulses of an axis, with their sign.
+// A number without a sign. Most pulses have one digit, which is pushed at once: the buffer that a longer number is
+// formatted in would cost more than the digit.
+#[tactic(auto, using(std::proofs::lemmas::Fmt::decimal_digit))]
+fn put_size(out: &mut Vec<u8>, n: u64) -> Result<(), AllocError>
+    ensures { OnOk result (out.new.items ≡ out.old.items ++ decimal n) }
+{
+    if n < 10 {
+        out.push(b'0' + n as u8)?;
+        return Ok(());
+    }
+    put_digits(out, n)
+}
+
+// A number, with its sign if it is below 0.
+fn put_number(out: &mut Vec<u8>, n: i64) -> Result<(), AllocError>
+    ensures { OnOk result (out.new.items ≡ out.old.items ++ signed_decimal n) }
+{
+    if n < 0 {
+        out.push(b'-')?;
+    }
+    put_size(out, n.unsigned_abs())
+}
+
+// The pulses of an axis, with their sign; inlined, since two are put in each tick.
+#[inline]
 #[tactic(auto, using(crate::proofs::Signs::above, crate::proofs::Signs::not_above, std::proofs::lemmas::Grind::common_steps))]
 fn put_pulse(out: &mut Vec<u8>, n: i64) -> Result<(), AllocError>
     ensures { OnOk result (out.new.items ≡ out.old.items ++ pulse_text n) }
@@ -71,7 +96,7 @@ pub fn put_target(out: &mut Vec<u8>, target: Target) -> Result<(), AllocError>
     out.extend_from_slice(b"to ")?;
     put_axes(out, target.to)?;
     out.extend_from_slice(b" fast ")?;
-    put_number(out, target.fast)?;
+    put_size(out, target.fast)?;
     out.push(b'\n')?;
     Ok(())
 }

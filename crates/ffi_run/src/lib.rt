@@ -61,12 +61,14 @@ fn run(
     Ok(travel(&mut control, count))
 }
 
-// Where a control is after so many ticks more, by adding up their pulses.
+// Where a control is after so many ticks more, by adding up their pulses. The ticks that are left are counted, down to 1:
+// a tick with no target left then takes eight instructions, and nine where the ticks made are counted up to `count`, or
+// by `(0..count).rev()`.
 fn travel(control: &mut Control, count: u64) -> Place
     ensures { result ≡ end_from control.old count }
 {
     let mut end = control.place();
-    for _ in 0..count {
+    for _ in (1..=count).rev() {
         end = onto(end, control.tick());
     }
     end

@@ -1,4 +1,4 @@
-use Rattle.std.proofs.Common.{◌≡◌, suc, ◌+◌, ◌-◌, ◌∙◌, arith}
+use Rattle.std.proofs.Common.{◌≡◌, suc, ◌-◌, ◌∙◌, arith}
 use Rattle.work.specs.Works.{row, ticks}
 use Rattle.ffi_run.proofs.Travels.{lands, onward}
 use Rattle.ffi_run.proofs.travel.Goals as goal
@@ -14,12 +14,12 @@ loop-preserved c =
     let i = c.loop.invariant in
     let h = c.tick.ensures.happened in
     let l = c.onto-end.ensures ∙ lands h c.loop.end c.tick.result i.stands c.tick.ensures.pulses in
-    let k : c.args.count - c.loop.counter ≡ suc (c.args.count - (c.loop.counter + 1)) = omega arith in
+    let k : c.loop.counter ≡ suc (c.loop.counter - 1) = omega arith in
     record { stands = l; near = rw l h.near; onward = onward h _ ∙ (rw k at i.onward) }
 
 pub returns : goal.returns
 unfolding row ticks
 returns c =
     let i = c.loop.invariant in
-    let z : c.args.count - c.loop.counter ≡ 0 = omega arith in
+    let z : c.loop.counter ≡ 0 = omega arith in
     i.stands ∙ (rw z at i.onward)
