@@ -53,6 +53,11 @@ module _ (bs from rest : List ℕ) (e : from ≡ drop (prefix_len gap bs) bs) (g
       (first_word [] f ∙ rw r refl, rw r refl)
   no_word (c ∷ cs) f n = absurd (omega (arith, eqb-true (length (c ∷ cs)) 0 n))
 
+pub blank : (bs : List ℕ) → true ≡ (length bs == 0) → words bs ≡ []
+unfolding words_after
+blank [] n = refl
+blank (b ∷ bs) n = absurd (omega (arith, eqb-true (length (b ∷ bs)) 0 (sym n)))
+
 -- where the first line feed is, a line ends
 abbrev pub first_feed : List ℕ → ℕ
 first_feed bs = position_or_len (λ b. eqb b 10) bs

@@ -4,7 +4,7 @@
 --   told s           what a script that was read says
 --   goes_on e n s ls what a script says whose first n lines said s, and whose others are ls; line e where none has a word
 --   has_machine s ls whether a script that began so, and goes on with ls, has a machine: ls say it, if s doesn't
---   Goes n s l t     t is what the first n lines said, s, and then the line l
+--   Adds n s l t     t is what the first n lines said, s, and then the line l
 --   Stops n s l f    f is why that line can't be read, or, behind a machine, the want of memory
 --   Said n s l t r   r says that t is what the first n lines said, s, and then the line l: or why that line stops it
 --   Reading s r      r is what a script says, or the line that can't be read and why, or the want of memory
@@ -50,7 +50,7 @@ abbrev pub has_machine : Option Script → List (List ℕ) → Bool
 has_machine None ls = says_machine ls
 has_machine (Some s) ls = true
 
-pub record Goes (n : ℕ) (s : Option Script) (l : List ℕ) (t : Option Script) : Type 0 where
+pub record Adds (n : ℕ) (s : Option Script) (l : List ℕ) (t : Option Script) : Type 0 where
   pub says : (e : ℕ) (ls : List (List ℕ)) → goes_on e n s (l ∷ ls) ≡ goes_on e (n + 1) t ls
   pub machine : (ls : List (List ℕ)) → has_machine s (l ∷ ls) ≡ has_machine t ls
 
@@ -60,7 +60,7 @@ Stops n s l (Refused (Number f)) = ⊥
 Stops n s l Memory = IsSome s
 
 abbrev pub Said : ℕ → Option Script → List ℕ → Option Script → Result (Unit {0}) (Failed ScriptError) → Type 0
-Said n s l t (Ok u) = Goes n s l t
+Said n s l t (Ok u) = Adds n s l t
 Said n s l t (Err f) = Stops n s l f
 
 abbrev pub Reading : Result Told Unread → Result Script (Failed ScriptError) → Type 0

@@ -86,6 +86,10 @@ impl<'a> Iterator for Words<'a> {
     ghost remaining = { item_count (λ s. s) };
 
     fn next(&mut self) -> Option<&'a [u8]> {
+        // So it is behind the last word of a line, and in a line of no bytes.
+        if self.rest.is_empty() {
+            return None;
+        }
         let (_, from) = self.rest.split_at(gap_len(self.rest));
         let (word, rest) = from.split_at(word_len(from));
         self.rest = rest;
