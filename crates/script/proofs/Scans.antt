@@ -1,4 +1,4 @@
--- A line without the gaps that it begins with, and its first word.
+-- A line without the gaps that it begins with and its first word, and the first line of a script.
 use Rattle.std.proofs.Common.{◌≡◌, ℕ, suc, ◌+◌, ◌<◌, ◌≤◌, true, false, eqb, ltb, ◌==◌, Some, None, rules, List, [], ◌∷◌, ◌++◌, length, take, drop, sym, refl, ◌∙◌, inl, inr, append_assoc, append-nil, length-append, drop-drop, arith}
 use Rattle.std.specs.List.{prefix_len, position_or_len, position_from}
 use Rattle.std.proofs.lemmas.Bool.{cases_Bool, eqb-true, eqb-false, ltb-true, ltb-false}
