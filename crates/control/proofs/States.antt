@@ -54,10 +54,10 @@ reached_more : (m : Machine) (ts us : List Target) (w : Work) → fit m ≡ true
 reached_more m ts us w f k = subst (Reached m (ts ++ us)) (sym k.is) (more_row m ts us (bounds.range m f).0 k.events)
 
 -- the beginning, and a machine that passed its checks
-begins_there : (ts : List Target) (w : Work) → w ≡ begun origin → origin ≡ place ts w.motion
+pub begins_there : (ts : List Target) (w : Work) → w ≡ begun origin → origin ≡ place ts w.motion
 begins_there ts w e = sym (ap (λ (v : Work). place ts v.motion) e ∙ begins (begun origin).motion ts refl)
 
-reached_first : (m : Machine) (ts : List Target) (w : Work) → w ≡ begun origin → Reached m ts w
+pub reached_first : (m : Machine) (ts : List Target) (w : Work) → w ≡ begun origin → Reached m ts w
 unfolding row
 reached_first m ts w e = record { events = []; is = e }
 
@@ -70,7 +70,7 @@ pub record Taken (a t : ℕ) (m : Machine) : Type 0 where
 pub taken : (a t : ℕ) (m : Machine) → Ok m ≡ machine_of a t → Taken a t m
 taken a t m e = record { is = grind arith; changes = grind arith; moves = grind arith }
 
-fit_of : (a t : ℕ) (m : Machine) → Ok m ≡ machine_of a t → fit m ≡ true
+pub fit_of : (a t : ℕ) (m : Machine) → Ok m ≡ machine_of a t → fit m ≡ true
 fit_of a t m e = let k = taken a t m e in rw (k.is, k.changes, k.moves)
 
 -- a control at the beginning

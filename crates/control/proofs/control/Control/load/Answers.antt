@@ -8,5 +8,4 @@ invariant_of-result c =
     loaded_first c.args.change c.args.top c.in_ok-machine.machine c.in_ok-machine.ensures _ (ap near (sym c.deref.ensures.value) ∙ sym c.if-not-all_near.ensures) (omega (arith, c.args.targets.ok.0, c.args.targets.small)) _ c.begin.ensures
 
 pub returns-clause-loaded : goal.returns-clause-loaded
-returns-clause-loaded c =
-    seen (loaded_first c.args.change c.args.top c.in_ok-machine.machine c.in_ok-machine.ensures _ (ap near (sym c.deref.ensures.value) ∙ sym c.if-not-all_near.ensures) (omega (arith, c.args.targets.ok.0, c.args.targets.small)) _ c.begin.ensures)
+returns-clause-loaded c = seen (invariant_of-result c)
